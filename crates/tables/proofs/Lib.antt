@@ -1,0 +1,5 @@
+pub mod Choice
+pub mod Table
+pub mod Pair
+pub mod Loop
+pub mod Tests

@@ -1,0 +1,4 @@
+pub mod Table
+pub mod Pair
+pub mod Loop
+pub mod Tests
