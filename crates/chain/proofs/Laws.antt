@@ -11,13 +11,13 @@ use lib.Dec.{ltb, leb}
 use lib.ListN.{length}
 use borrow.Author.Tests.{ltb-true, leb-true, leb-false, lt-ltb, le-ltb, le-leb, lt-leb, eq-eqb, ne-eqb}
 use Rattle.tables.specs.Table.{at, put}
-use Rattle.tables.specs.Pair.{pair}
+use Rattle.tables.specs.Pair.{pair, word}
 use Rattle.tables.specs.Loop.{lastAt}
 use Rattle.tables.proofs.Choice.{by-test, and-true}
 use Rattle.tables.proofs.Table.{put-size, put-same, put-other}
 use Rattle.tables.proofs.Pair.{pair-high, pair-low}
 use Rattle.tables.proofs.Loop.{lastAt-none, lastAt-next, Last, no-last, last, last-is}
-use Rattle.chain.specs.Chain.{lenAt, size, versionAt, newest, latest, hasRoom, Chains, chains, added, word, unpacked}
+use Rattle.chain.specs.Chain.{lenAt, size, versionAt, newest, latest, hasRoom, Chains, chains, added, unpacked}
 use Rattle.chain.specs.declared.Version.{Version}
 
 module _ (lens : List ℕ) (c n : ℕ) where

@@ -7,7 +7,7 @@ use mathlib.Core.List.{List}
 use mathlib.Core.Option.{Option, none, some, Option·map}
 use lib.Dec.{ltb, leb, eqb}
 use Rattle.tables.specs.Table.{at, put}
-use Rattle.tables.specs.Pair.{pair}
+use Rattle.tables.specs.Pair.{pair, word}
 use Rattle.tables.specs.Loop.{lastAt}
 use Rattle.chain.specs.declared.Version.{Version}
 use Rattle.chain.specs.declared.Lookup.{Lookup}
@@ -18,10 +18,7 @@ abbrev pub resultOf : Lookup → Option Version
 resultOf (Found v) = some v
 resultOf Nothing = none
 
--- a version as one number, and back
-abbrev pub word : ℕ
-word = 4294967296
-
+-- a version from the word that holds it
 abbrev pub unpacked : ℕ → Version
 unpacked x = record { number = x / word; value = x % word }
 

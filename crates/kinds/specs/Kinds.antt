@@ -7,6 +7,10 @@ use lib.Dec.{leb}
 use Rattle.kinds.specs.declared.Fields.{Fields}
 use Rattle.tables.specs.Table.{at}
 
+-- the thirteen kinds by name
+pub data Kind : Type 0 where
+  begin write ask serve return commit prepare decide giveUp learn apply advance abandon : Kind
+
 -- which of slot, node, cell and value are used
 abbrev pub uses : Bool → Bool → Bool → Bool → Fields
 uses s n c v = record { slot = s; node = n; cell = c; value = v }
@@ -39,6 +43,27 @@ wholeOf kind = kind % 128
 -- kinds 1 to 13 are known, whole or cut
 abbrev pub isKnown : ℕ → Bool
 isKnown kind = leb 1 (wholeOf kind) && leb (wholeOf kind) 13
+
+-- the name of a known kind
+abbrev pub names : List Kind
+names =
+    begin
+    ∷ write
+    ∷ ask
+    ∷ serve
+    ∷ return
+    ∷ commit
+    ∷ prepare
+    ∷ decide
+    ∷ giveUp
+    ∷ learn
+    ∷ apply
+    ∷ advance
+    ∷ abandon
+    ∷ []
+
+unfoldable pub named : ℕ → Kind
+named kind = at names (wholeOf kind - 1) begin
 
 -- what a kind byte uses: a cut kind the same as the whole one, an unknown one nothing
 unfoldable pub usesOf : ℕ → Fields

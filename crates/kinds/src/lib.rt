@@ -1,8 +1,16 @@
-// The kinds of step: which of the four fields slot, node, cell and value each one uses. The step, the reader and the writer all go by
-// this one table.
+// A step, and the kinds of step: which of the four fields slot, node, cell and value each one uses. The step function, the reader and the
+// writer all go by this one table.
 ghost use mathlib.Core.Path.{_≡_};
 ghost use lib.Dec.{leb};
 ghost use Rattle.kinds.specs.Kinds.{wholeOf, isKnown, usesOf};
+
+pub struct Step {
+    pub kind: u8,
+    pub slot: u8,
+    pub node: u8,
+    pub cell: u8,
+    pub value: u32,
+}
 
 pub struct Fields {
     pub slot: bool,

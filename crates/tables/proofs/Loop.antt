@@ -59,6 +59,9 @@ module _ (p : ℕ → Bool) where
   unfolding any
   any-more k e q = rw (add-one, e, q)
 
+  pub any-end : (i k : ℕ) → i ≤ k → k ≤ i → any i p ≡ false → any k p ≡ false
+  any-end i k h l e = sym (at-end (λ j. any j p) i k h l (sym e))
+
   pub any-has : (k i : ℕ) → i < k → p i ≡ true → any k p ≡ true
   unfolding any
   any-has zero i h e = absurd (omega arith)
@@ -107,6 +110,9 @@ module _ (p : ℕ → Bool) where
   pub every-more : (k : ℕ) → every k p ≡ true → p k ≡ true → every (k + 1) p ≡ true
   unfolding every
   every-more k e q = rw (add-one, e, q)
+
+  pub every-end : (i k : ℕ) → i ≤ k → k ≤ i → every i p ≡ true → every k p ≡ true
+  every-end i k h l e = sym (at-end (λ j. every j p) i k h l (sym e))
 
   pub every-not : (k i : ℕ) → i < k → p i ≡ false → every k p ≡ false
   every-not k i h e = every-any k p ∙ ap not (any-has (λ j. not (p j)) k i h (ap not e))

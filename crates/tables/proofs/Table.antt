@@ -6,7 +6,7 @@ use mathlib.Core.List.{List}
 use Prim.Native.Nat.{ℕ, _<_, _≤_}
 use native.Mathlib.Decide.{ℕ-discrete}
 use lib.ListN.{length, length-set, replicate, getD-replicate, List·getD-eq-default}
-use lib.Seq.{getD-set-same, getD-set-other, set-getD, set-set, set-comm, ext-getD}
+use lib.Seq.{getD-set-same, getD-set-other, set-getD, set-set, set-comm, set-out, ext-getD}
 use Rattle.tables.specs.Table.{at, put}
 
 pub put-size : {A : Type 0} (l : List A) (i : ℕ) (v : A) → length (put l i v) ≡ length l
@@ -59,6 +59,10 @@ unfolding at
 at-all k i v d h = getD-replicate k i v d h
 
 -- past the end
+pub put-past : {A : Type 0} (l : List A) (i : ℕ) (v : A) → length l ≤ i → put l i v ≡ l
+unfolding put
+put-past l i v h = set-out l i v h
+
 pub at-past : {A : Type 0} (l : List A) (i : ℕ) (d : A) → length l ≤ i → at l i d ≡ d
 unfolding at
 at-past l i d h = List·getD-eq-default l d h

@@ -5,3 +5,7 @@ use Prim.Native.Nat.{ℕ, _+_, _*_}
 
 abbrev pub pair : ℕ → ℕ → ℕ → ℕ
 pair w i j = i * w + j
+
+-- numbers and values have 32 bits, so that a word holds two of them: a tag or a number, times this, and a number or a value
+abbrev pub word : ℕ
+word = 4294967296
