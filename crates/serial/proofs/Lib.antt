@@ -1,0 +1,19 @@
+mod Inv
+mod Quiet
+mod Counts
+mod Joins
+mod Decided
+mod Applied
+mod Views
+mod Change
+mod Slots
+mod Reading
+mod Voting
+mod Stored
+mod Settling
+mod Steps
+mod Copy
+mod Claim
+mod Begins
+pub mod Theorem
+pub mod CutLaw
