@@ -2,11 +2,28 @@
 -- go nor grow weaker unnoticed.
 -- Assumes nothing.
 use mathlib.Core.Path.{_≡_, refl}
+use mathlib.Core.Logic.{_≢_}
+use mathlib.Core.List.{List}
 use mathlib.Core.Option.{Option}
 use Prim.Native.Nat.{ℕ}
-use Rattle.number.specs.Proposal.{proposal, upToTop, next, IsProposal}
+use Rattle.tables.specs.Table.{at}
+use Rattle.number.specs.Proposal.{proposal, IsProposal}
 use Rattle.number.proofs.Laws.{proposal-is, proposal-only}
-use Rattle.claims.specs.Starred.{starred, AllHold}
+use Rattle.kinds.specs.declared.Step.{Step}
+use Rattle.kinds.specs.Kinds.{Kind}
+use Rattle.group.specs.declared.Answer.the-variants.{Cut, Refused}
+use Rattle.score.specs.Desk.{Desk}
+use Rattle.score.specs.Steps.{does, cuts, stepWhole, stepOf}
+use Rattle.serial.specs.Serial.{Sound, Steps32, start, runOf, Serial}
+use Rattle.serial.proofs.Theorem.{serial}
+use Rattle.serial.proofs.CutLaw.{withCounter, cut-law}
+use Rattle.serial.proofs.Never as Never
+use Rattle.claims.specs.Example.{AllHold}
+use Rattle.claims.specs.Starred.{starred}
+use Rattle.claims.specs.Pinned.{pinned}
+use Rattle.claims.proofs.Computed.{computed}
+
+-- ---- demand 2
 
 -- The proposal rule, for every node number and every counter: what is proposed is what the paper says ..
 pub proposal-rule : (n c : ℕ) → IsProposal n c (proposal n c)
@@ -16,7 +33,31 @@ proposal-rule = proposal-is
 pub proposal-rule-only : (n c : ℕ) (r : Option ℕ) → IsProposal n c r → r ≡ proposal n c
 proposal-rule-only = proposal-only
 
--- The paper's starred examples, computed from the definitions.
+-- A cut step writes the counter as the whole step would, and changes nothing else.
+pub cut-step : (q : Desk) (x : Step) (k : Kind) → (cuts q x k .answer ≡ Cut) × (cuts q x k .desk ≡ withCounter q (does q x k .desk .counters))
+unfolding cuts
+cut-step q x k = (refl, cut-law q x k)
+
+-- The paper's starred examples, as one list, and those that pin what the serial statement alone would not notice.
 pub starred-examples : AllHold starred
-unfolding proposal upToTop next
-starred-examples = (refl, (refl, (refl, (refl, (refl, (refl, (refl, (refl, (refl, tt)))))))))
+starred-examples = computed .0
+
+pub pinned-examples : AllHold pinned
+pinned-examples = computed .1
+
+-- ---- demand 3
+
+-- From a fresh run of any sound group, after any steps, refused and cut ones among them: distinct numbers, and every value ever handed out
+-- explained by running the committed writers one by one on one copy.
+pub serial-statement : (nodes cells : ℕ) (counters masks values : List ℕ) → Sound nodes cells counters masks values → (xs : List Step) → Steps32 xs
+    → Serial (λ c. at values c 0) (runOf (start nodes cells counters masks values) xs)
+serial-statement = serial
+
+-- Never 15: no step of such a run answers it, and the step that doesn't test for a whole state is the step.
+pub never-15 : (nodes cells : ℕ) (counters masks values : List ℕ) → Sound nodes cells counters masks values → (xs : List Step) → Steps32 xs → (x : Step)
+    → stepOf (runOf (start nodes cells counters masks values) xs .state) x .answer ≢ Refused 15
+never-15 = Never.never-15
+
+pub inner-step : (nodes cells : ℕ) (counters masks values : List ℕ) → Sound nodes cells counters masks values → (xs : List Step) → Steps32 xs → (x : Step)
+    → stepOf (runOf (start nodes cells counters masks values) xs .state) x ≡ stepWhole (runOf (start nodes cells counters masks values) xs .state) x
+inner-step = Never.inner-step

@@ -1,2 +1,2 @@
+mod Computed
 pub mod Claims
-pub mod Listing

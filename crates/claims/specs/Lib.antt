@@ -1,2 +1,4 @@
-pub mod Starred
 pub mod Runs
+pub mod Example
+pub mod Starred
+pub mod Pinned

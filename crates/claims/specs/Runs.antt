@@ -1,4 +1,4 @@
--- Runs that are computed from the definitions: a group, its steps, and what each answers.
+-- Runs from a state by steps, and what each step answers.
 -- Assumes nothing.
 use mathlib.Core.List.{List, [], _∷_}
 use Prim.Native.Nat.{ℕ}
@@ -11,15 +11,11 @@ use Rattle.score.specs.Steps.{stepWhole, stepOf}
 abbrev pub st : ℕ → ℕ → ℕ → ℕ → ℕ → Step
 st k t n c v = record { kind = k; slot = t; node = n; cell = c; value = v }
 
--- what a run answers: by the step of any state, and by that of a state known to be whole
 unfoldable pub answers : State → List Step → List Said
 answers s [] = []
 answers s (x ∷ xs) = let o = stepOf s x in said (o .answer) ∷ answers (o .state) xs
 
+-- the same by the step that doesn't test for a whole state: in a run from fresh it is the step (the claim `inner-step`)
 unfoldable pub replies : State → List Step → List Said
 replies s [] = []
 replies s (x ∷ xs) = let o = stepWhole s x in said (o .answer) ∷ replies (o .state) xs
-
-unfoldable pub after : State → List Step → State
-after s [] = s
-after s (x ∷ xs) = after (stepWhole s x .state) xs

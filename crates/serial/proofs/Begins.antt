@@ -1,35 +1,32 @@
 -- What holds of a fresh run.
 -- Assumes nothing.
-use mathlib.Core.Path.{_≡_, refl, sym, ap, subst, _∙_}
-use mathlib.Core.Logic.{_≢_}
-use mathlib.Core.Bool.{Bool, true, false, cond}
-use mathlib.Core.List.{List, [], _∷_, map, List·Memᴰ, List·Memᴰ·not-nil}
-use Prim.Native.Nat.{ℕ, zero, suc, _+_, _*_, _-_, _/_, _%_, _^_, _≤_, _<_}
+use mathlib.Core.Path.{_≡_, ap, _∙_}
+use mathlib.Core.Bool.{true, false, cond}
+use mathlib.Core.List.{List, [], List·Memᴰ, List·Memᴰ·not-nil}
+use Prim.Native.Nat.{ℕ, zero, suc, _-_, _/_, _%_, _^_, _≤_, _<_}
 use native.Mathlib.Nat.{div-eq-of-lt, div-eq-of-lt-le, mod-eq-of-lt}
 use native.Mathlib.Omega.{arith}
-use lib.Dec.{ltb, leb, eqb}
-use lib.ListN.{length, replicate, length-replicate, length-map, List·getD-map}
+use lib.Dec.{ltb, eqb}
+use lib.ListN.{replicate, length-replicate, length-map, List·getD-map}
 use lib.Pow.{pow-mono}
-use borrow.Author.Tests.{ltb-true, ltb-false, eqb-true}
+use borrow.Author.Tests.{ltb-true, ltb-false}
 use Rattle.tables.specs.Table.{at}
 use Rattle.tables.specs.Pair.{pair, word}
-use Rattle.tables.specs.Loop.{each}
 use Rattle.tables.proofs.Choice.{by-test, not-both}
 use Rattle.tables.proofs.Table.{at-all}
-use Rattle.tables.proofs.Pair.{pair-high, pair-low, pair-inj}
+use Rattle.tables.proofs.Pair.{pair-high, pair-low}
 use Rattle.tables.proofs.Loop.{each-size, each-hit}
 use Rattle.counters.specs.Counters.{zeroed}
-use Rattle.counters.specs.declared.Counters.{Counters}
-use Rattle.chain.specs.Chain.{lenAt, versionAt, unpacked}
-use Rattle.chain.specs.declared.Version.{Version}
+use Rattle.chain.specs.Chain.{lenAt, versionAt}
 use Rattle.chain.proofs.Laws.{len-in}
 use Rattle.group.specs.declared.Slot.{Slot}
-use Rattle.group.specs.State.{State, holds, tagAt, stageNumber, finalOf, noSlot, slotAt, countersAt}
+use Rattle.group.specs.State.{State, holds, stageNumber, noteOf, finalOf, noSlot, slotAt, countersAt}
 use Rattle.group.specs.Fresh.{freshLens, freshVersions, fresh}
-use Rattle.serial.specs.Serial.{Handed, Sound}
-use Rattle.serial.proofs.Inv.{Slots, Transaction, Chaining, Inv}
+use Rattle.serial.specs.Serial.{Sound}
+use Rattle.serial.proofs.Inv.{Chaining}
 use Rattle.serial.proofs.Views.{fixedAt, groundOf, nodesOf, slotsOf, linksOf, Sizes, All}
 use Rattle.serial.proofs.Change.{early-one, no-read}
+use Rattle.serial.proofs.Shape.{Shape}
 
 -- ---- masks
 
@@ -155,5 +152,33 @@ module _ (nodes cells : ℕ) (counters masks values : List ℕ) (q : Sound nodes
       chaining = chaining₀;
       reading = λ t ht. no-read _ _ (slotsOf s) t _ _ (λ z. omega (arith, stg₀ t ht)) (λ z. omega (arith, stg₀ t ht)) (λ z. snap₀ t ht) (omega (arith, snap₀ t ht));
       handing = record { given = λ h m. absurd (List·Memᴰ·not-nil m); took = λ h m. absurd (List·Memᴰ·not-nil m) };
+    };
+  }
+
+  rd₀ : (t c : ℕ) → t < 32 → c < 32 → slotsOf s .rd t c ≡ 0
+  unfolding fresh
+  rd₀ t c ht hc = zeros 1024 (pair 32 t c) (omega arith)
+
+  num₀ : (t n : ℕ) → t < 32 → n < 8 → slotsOf s .num t n ≡ 0
+  unfolding fresh
+  num₀ t n ht hn = ap (_% word) (zeros 256 (pair 8 t n) (omega arith))
+
+  pub fresh-shape : Shape s
+  unfolding fresh
+  fresh-shape = record {
+    nodes-low = q .nodes-low;
+    cells-low = q .cells-low;
+    masks = q .masks-in;
+    slots = λ t ht. record {
+      early = λ n hn l. num₀ t n ht hn;
+      late = λ n hn e. num₀ t n ht hn;
+      reads = λ c hc. omega (arith, rd₀ t c ht hc);
+      origin = λ l. absurd (omega (arith, stg₀ t ht));
+      updates = λ c hc l w. absurd (omega (arith, wr₀ t c ht hc));
+      fixed = λ c hc l w. absurd (omega (arith, rd₀ t c ht hc));
+      spread = λ n hn l. absurd (omega (arith, tag₀ t n ht hn));
+      aborted = λ e. absurd (omega (arith, stg₀ t ht));
+      author = λ l. absurd (omega (arith, fin₀ t ht));
+      small = omega (arith, ap (λ (y : Slot). noteOf (y .stage) .value) (slot₀ t ht));
     };
   }

@@ -1,10 +1,10 @@
 -- The changes of a state, each by what it does to the views.
 -- Assumes nothing.
-use mathlib.Core.Path.{_≡_, refl, sym, ap, _∙_}
-use mathlib.Core.Logic.{_≢_, _⊎_, inl, inr}
-use mathlib.Core.Bool.{Bool, true, false}
+use mathlib.Core.Path.{_≡_, refl, ap, _∙_}
+use mathlib.Core.Logic.{_≢_, _⊎_, inl}
+use mathlib.Core.Bool.{true}
 use mathlib.Core.List.{List, List·Memᴰ}
-use Prim.Native.Nat.{ℕ, suc, _+_, _*_, _/_, _%_, _≤_, _<_}
+use Prim.Native.Nat.{ℕ, _+_, _/_, _%_, _≤_, _<_}
 use native.Mathlib.Omega.{arith}
 use native.Mathlib.Decide.{ℕ-discrete}
 use lib.Dec.{ltb}
@@ -16,14 +16,13 @@ use Rattle.tables.proofs.Choice.{by-test}
 use Rattle.tables.proofs.Table.{put-size, put-same, put-other, at-past}
 use Rattle.counters.specs.Counters.{zeroed, risenTo, countedTo}
 use Rattle.counters.specs.declared.Counters.{Counters}
-use Rattle.chain.specs.Chain.{Chains}
 use Rattle.group.specs.declared.Slot.{Slot}
 use Rattle.group.specs.declared.Ask.{Ask}
 use Rattle.group.specs.declared.Note.{Note}
 use Rattle.tables.proofs.Pair.{pair-inj}
 use Rattle.group.specs.State.{State, entered, stageNumber, askOf, noteOf, finalOf, noSlot, slotAt, countersAt}
 use Rattle.serial.specs.Serial.{Handed}
-use Rattle.serial.proofs.Inv.{Nodes, Slots, Links, Ground, Writes, Transaction, Reading, Given, Took, Inv}
+use Rattle.serial.proofs.Inv.{Nodes, Slots, Ground, Writes, Transaction, Reading, Given, Took}
 use Rattle.serial.proofs.Quiet.{Alike, QuietAt, quiet}
 use Rattle.serial.proofs.Counts.{Rises, rises}
 use Rattle.serial.proofs.Views.{fixedAt, groundOf, nodesOf, slotsOf, linksOf, asksOf, notesOf, Sizes, All, setCounters, setSlot, setTables}

@@ -1,10 +1,10 @@
 -- From what holds of every state that is reached to the claim.
 -- Assumes nothing.
-use mathlib.Core.Path.{_≡_, refl, sym, ap, subst, _∙_}
+use mathlib.Core.Path.{_≡_, refl, ap, _∙_}
 use mathlib.Core.Logic.{_≢_}
-use mathlib.Core.Bool.{Bool, true, false, cond, _&&_}
+use mathlib.Core.Bool.{Bool, true, false, _&&_}
 use mathlib.Core.List.{List, List·Memᴰ}
-use Prim.Native.Nat.{ℕ, zero, suc, _+_, _-_, _≤_, _<_}
+use Prim.Native.Nat.{ℕ, zero, _-_, _≤_, _<_}
 use native.Mathlib.Omega.{arith}
 use native.Mathlib.Decide.{ℕ-discrete}
 use lib.Dec.{leb, ltb, eqb}
@@ -12,12 +12,11 @@ use borrow.Author.Tests.{leb-true, leb-false, le-leb, ltb-true, lt-ltb, ltb-fals
 use Rattle.tables.specs.Loop.{any}
 use Rattle.tables.proofs.Choice.{by-test, and-true, not-both}
 use Rattle.tables.proofs.Loop.{any-at, any-has, any-where, Where, found}
-use Rattle.chain.specs.Chain.{lenAt, size, versionAt}
 use Rattle.chain.proofs.Laws.{size-in}
-use Rattle.group.specs.State.{State, holds, unfinished, noted, has, writer, committed, slotAt}
-use Rattle.serial.specs.Serial.{Handed, Run, isWriter, numberOf, writers, copyAfter, Serial}
-use Rattle.serial.proofs.Inv.{Slots, Links, Ground, Transaction, From, from, Into, into, Latest, untouched, last, Given, Took, Inv}
-use Rattle.serial.proofs.Views.{groundOf, nodesOf, slotsOf, linksOf, Sizes, All}
+use Rattle.group.specs.State.{State, holds, unfinished, has, writer, committed}
+use Rattle.serial.specs.Serial.{Handed, isWriter, numberOf, writers, copyAfter, Serial}
+use Rattle.serial.proofs.Inv.{Slots, Links, Transaction, From, from, Into, into, Latest, untouched, last, Given, Took}
+use Rattle.serial.proofs.Views.{groundOf, nodesOf, slotsOf, linksOf, All}
 use Rattle.serial.proofs.Reading.{pends}
 use Rattle.serial.proofs.Copy.{Last, nobody, wrote, last-unique, Picked, copy-holds}
 

@@ -1,6 +1,5 @@
 -- A change of counters alone: none falls, and a commit number stays below what is pending.
 -- Assumes nothing.
-use mathlib.Core.Path.{_≡_}
 use mathlib.Core.List.{List}
 use Prim.Native.Nat.{ℕ, _%_, _≤_, _<_}
 use native.Mathlib.Omega.{arith}

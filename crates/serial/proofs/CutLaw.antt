@@ -1,8 +1,7 @@
 -- The cut step: "the counter is written as the whole step would write it and nothing else changes", for every kind.
 -- Assumes nothing.
-use mathlib.Core.Path.{_≡_, refl, sym, ap, _∙_}
-use mathlib.Core.Bool.{Bool, true, false, cond}
-use mathlib.Core.Option.{Option, none, some}
+use mathlib.Core.Path.{_≡_, refl, ap, _∙_}
+use mathlib.Core.Bool.{false}
 use Prim.Native.Nat.{ℕ, max}
 use native.Mathlib.Nat.{max-zero}
 use Rattle.tables.proofs.Choice.{by-test, not-both}
@@ -16,7 +15,7 @@ use Rattle.group.specs.State.{has, writer, askOf, finalOf, committed, inStage}
 use Rattle.read.specs.Read.{askTurn, readAt, blocked, serveTurn, spoilt, returnTurn}
 use Rattle.vote.specs.Vote.{commitTurn, Vote, votes-yes, votes-no, prepareTurn, voteRise, refusedBy, decideTurn}
 use Rattle.settle.specs.Settle.{learnTurn}
-use Rattle.score.specs.Desk.{Desk, Outcome, withCounters}
+use Rattle.score.specs.Desk.{Desk, withCounters}
 use Rattle.score.specs.Steps.{does, voteOf, rise, cuts}
 
 -- the desk with the counter that another has, and nothing else of it

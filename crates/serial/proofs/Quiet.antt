@@ -1,17 +1,16 @@
 -- A quiet change: of one transaction that is no writer before or after, with nothing newly pending. Whatever speaks of pending entries and of
 -- writers stays.
 -- Assumes nothing.
-use mathlib.Core.Path.{_≡_, refl, sym, ap, _∙_}
+use mathlib.Core.Path.{_≡_, sym, ap, _∙_}
 use mathlib.Core.Logic.{_≢_, _⊎_, ⊎-elim}
-use mathlib.Core.Bool.{Bool, true, false}
 use mathlib.Core.List.{List, List·Memᴰ}
-use Prim.Native.Nat.{ℕ, suc, _+_, _%_, _≤_, _<_}
+use Prim.Native.Nat.{ℕ, _%_, _≤_, _<_}
 use native.Mathlib.Omega.{arith}
 use native.Mathlib.Decide.{ℕ-discrete}
 use Rattle.group.specs.declared.Ask.{Ask}
 use Rattle.group.specs.declared.Note.{Note}
 use Rattle.serial.specs.Serial.{Handed}
-use Rattle.serial.proofs.Inv.{Nodes, Slots, Links, Ground, Counting, Numbering, Writes, writes, Transaction, Locking, From, from, Into, into, Chaining, Latest, untouched, last, Given, Took, Handing, Reading, Inv}
+use Rattle.serial.proofs.Inv.{Nodes, Slots, Links, Ground, Counting, Numbering, Writes, writes, Transaction, Locking, From, from, Chaining, Latest, untouched, last, Given, Took, Reading, Inv}
 
 -- transaction u looks the same
 pub record Alike (S S′ : Slots) (u : ℕ) : Type 0 where

@@ -2,19 +2,18 @@
 -- Assumes nothing.
 use mathlib.Core.Path.{_≡_, refl, sym, ap, subst, subst₂, _∙_}
 use mathlib.Core.Logic.{_≢_, _⊎_, inl, inr, ⊎-elim}
-use mathlib.Core.Bool.{Bool, true, false, cond, not, _&&_, _||_}
-use mathlib.Core.List.{List, [], _∷_, List·Memᴰ, List·Memᴰ·cases-cons}
+use mathlib.Core.Bool.{true, false}
+use mathlib.Core.List.{List, _∷_, List·Memᴰ, List·Memᴰ·cases-cons}
 use mathlib.Core.Option.{Option, none, some}
-use Prim.Native.Nat.{ℕ, suc, _+_, _*_, _-_, _/_, _%_, _≤_, _<_, max}
+use Prim.Native.Nat.{ℕ, suc, _+_, _-_, _/_, _≤_, _<_}
 use native.Mathlib.Omega.{arith}
 use native.Mathlib.Decide.{ℕ-discrete}
-use lib.Dec.{leb, ltb, eqb}
-use lib.ListN.{length}
-use borrow.Author.Tests.{ltb-true, ltb-false, leb-true, leb-false, eqb-true, le-leb, lt-ltb}
+use lib.Dec.{leb, ltb}
+use borrow.Author.Tests.{ltb-true, ltb-false, leb-false, eqb-true, le-leb, lt-ltb}
 use Rattle.tables.specs.Table.{at, put}
 use Rattle.tables.specs.Pair.{pair, word}
-use Rattle.tables.proofs.Choice.{by-test, and-true, not-both}
-use Rattle.tables.proofs.Table.{put-size, put-same, put-other}
+use Rattle.tables.proofs.Choice.{by-test, not-both}
+use Rattle.tables.proofs.Table.{put-same, put-other}
 use Rattle.tables.proofs.Pair.{pair-inj}
 use Rattle.tables.proofs.Loop.{any-at}
 use Rattle.tables.proofs.Tests.{Passed}
@@ -22,28 +21,27 @@ use Rattle.counters.specs.Counters.{risenTo}
 use Rattle.counters.specs.declared.Counters.{Counters}
 use Rattle.kinds.specs.declared.Step.{Step}
 use Rattle.kinds.specs.Kinds.{serve, return}
-use Rattle.chain.specs.Chain.{Chains, lenAt, size, versionAt, newest, latest}
+use Rattle.chain.specs.Chain.{size, newest, latest}
 use Rattle.chain.specs.declared.Version.{Version}
 use Rattle.chain.proofs.Laws.{size-in, Newest, no-version, version, newest-is}
 use Rattle.group.specs.declared.Slot.{Slot}
 use Rattle.group.specs.declared.Ask.{Ask}
 use Rattle.group.specs.declared.Note.{Note}
 use Rattle.group.specs.declared.Stage.{Stage}
-use Rattle.group.specs.declared.Snapshot.the-variants.{Unfixed, Fixed}
-use Rattle.group.specs.declared.Stage.the-variants.{Unused, Open, Asking, Served, Voting, Committed, Aborted}
+use Rattle.group.specs.declared.Snapshot.the-variants.{Fixed}
+use Rattle.group.specs.declared.Stage.the-variants.{Open, Asking, Served, Aborted}
 use Rattle.group.specs.declared.Turn.{Turn}
 use Rattle.group.specs.declared.Answer.the-variants.{Done, Value, Wait}
 use Rattle.group.specs.declared.Answer.the-variants as Answer
 use Rattle.group.specs.Answer.{turn}
-use Rattle.group.specs.State.{State, holds, numberAt, unfinished, has, stageNumber, askOf, noteOf, finalOf, inStage, atStage, slotAt, countersAt}
+use Rattle.group.specs.State.{State, holds, numberAt, unfinished, has, stageNumber, askOf, noteOf, finalOf, atStage, slotAt, countersAt}
 use Rattle.read.specs.Read.{readAt, blocks, blocked, valueOf, noteFor, waitFor, serveTurn, spoilt, returnTurn, returnReads}
 use Rattle.score.specs.Desk.{placeOf, deskOf, putBack, turned, withReads}
 use Rattle.score.specs.Steps.{needs, does}
 use Rattle.serial.specs.Serial.{Handed}
-use Rattle.serial.proofs.Inv.{Nodes, Slots, Links, Ground, Transaction, From, from, Into, into, Latest, untouched, last, Reading, Given, Took, Inv}
+use Rattle.serial.proofs.Inv.{Nodes, Slots, Links, Ground, From, from, Into, into, Latest, untouched, last, Reading, Given, Took}
 use Rattle.serial.proofs.Quiet.{QuietAt, still, still-given}
-use Rattle.serial.proofs.Counts.{rises-given}
-use Rattle.serial.proofs.Views.{fixedAt, groundOf, nodesOf, slotsOf, linksOf, Sizes, All, setCounters, setSlot, setTables}
+use Rattle.serial.proofs.Views.{fixedAt, groundOf, nodesOf, slotsOf, linksOf, All, setCounters, setSlot, setTables}
 use Rattle.serial.proofs.Change.{Rows, no-rows, read-rows, moved, slot-here, alike, quietly, counters-here, early-one, no-read, any-counters, risen-to}
 use Rattle.serial.proofs.Slots.{free, stage-only, restaged, stage-here, final-here, snap-here, undecided, aborts}
 

@@ -2,44 +2,38 @@
 -- Assumes nothing.
 use mathlib.Core.Path.{_≡_, refl, sym, ap, subst, subst₂, fun-ext, _∙_}
 use mathlib.Core.Logic.{_≢_}
-use mathlib.Core.Bool.{Bool, true, false, cond, not, _&&_, _||_}
-use mathlib.Core.List.{List, [], _∷_, List·Memᴰ}
+use mathlib.Core.Bool.{true, false, not, _&&_}
+use mathlib.Core.List.{List}
 use mathlib.Core.Option.{Option, none, some}
-use Prim.Native.Nat.{ℕ, zero, suc, _+_, _*_, _-_, _/_, _%_, _≤_, _<_}
+use Prim.Native.Nat.{ℕ, _-_, _%_, _≤_, _<_}
 use native.Mathlib.Omega.{arith}
 use native.Mathlib.Decide.{ℕ-discrete}
-use lib.Dec.{leb, ltb, eqb}
-use lib.ListN.{length}
-use borrow.Author.Tests.{ltb-true, ltb-false, leb-true, leb-false, eqb-true, eqb-false, lt-ltb, not-true}
+use lib.Dec.{ltb}
+use borrow.Author.Tests.{ltb-true, ltb-false, leb-true, eqb-true, not-true}
 use Rattle.tables.specs.Table.{at, put}
-use Rattle.tables.specs.Pair.{pair, word}
-use Rattle.tables.specs.Loop.{any, turns, leastAt}
+use Rattle.tables.specs.Pair.{word}
+use Rattle.tables.specs.Loop.{any}
 use Rattle.tables.proofs.Choice.{by-test, and-true, not-both}
-use Rattle.tables.proofs.Table.{put-size, put-same, put-other}
-use Rattle.tables.proofs.Pair.{pair-inj}
-use Rattle.tables.proofs.Loop.{any-at, Least, no-least, least, least-is}
+use Rattle.tables.proofs.Table.{put-size}
+use Rattle.tables.proofs.Loop.{any-at, Least, least, least-is}
 use Rattle.tables.proofs.Tests.{Passed}
 use Rattle.counters.specs.Counters.{countedTo, committedAt}
 use Rattle.counters.specs.declared.Counters.{Counters}
 use Rattle.kinds.specs.declared.Step.{Step}
 use Rattle.kinds.specs.Kinds.{learn, apply, advance}
-use Rattle.chain.specs.Chain.{Chains, lenAt, versionAt, added}
+use Rattle.chain.specs.Chain.{Chains, lenAt, versionAt}
 use Rattle.chain.specs.declared.Version.{Version}
-use Rattle.chain.proofs.Laws.{added-lens, added-versions, added-len, added-len-other, added-version, added-version-other}
 use Rattle.group.specs.declared.Slot.{Slot}
-use Rattle.group.specs.declared.Turn.{Turn}
-use Rattle.group.specs.declared.Answer.the-variants.{Done}
-use Rattle.group.specs.Answer.{turn}
-use Rattle.group.specs.State.{State, holds, sent, votedYes, toApply, finished, tagAt, numberAt, entered, unfinished, noted, has, committed, aborted, stageNumber, finalOf, inStage, slotAt, countersAt}
-use Rattle.settle.specs.Settle.{learnTests, learnTurn, learnFlight, isLearned, stored, applied, applyTurn, applyChains, applyFlight, advanceTests, advanceTurn}
+use Rattle.group.specs.State.{State, holds, sent, toApply, finished, tagAt, numberAt, entered, unfinished, noted, has, committed, stageNumber, finalOf, inStage, slotAt, countersAt}
+use Rattle.settle.specs.Settle.{learnTests, learnTurn, learnFlight, isLearned, stored, applied, applyChains, applyFlight, advanceTests}
 use Rattle.settle.specs.Settle as Settle
-use Rattle.score.specs.Desk.{placeOf, deskOf, putBack, turned, withFlight, withChains}
+use Rattle.score.specs.Desk.{placeOf, deskOf, putBack}
 use Rattle.score.specs.Steps.{needs, does}
 use Rattle.serial.specs.Serial.{Handed}
-use Rattle.serial.proofs.Inv.{Nodes, Slots, Links, Ground, Writes, writes, Transaction, Reading, Given, Took, Inv}
+use Rattle.serial.proofs.Inv.{Nodes, Slots, Ground, writes, Transaction, Took, Inv}
 use Rattle.serial.proofs.Quiet.{QuietAt}
 use Rattle.serial.proofs.Joins.{Entry, here, away, withEntries, JoinsAt, joins}
-use Rattle.serial.proofs.Applied.{withCommits, Grown, grown, same, AppliesAt}
+use Rattle.serial.proofs.Applied.{Grown, grown, same, AppliesAt}
 use Rattle.serial.proofs.Applied as Applied
 use Rattle.serial.proofs.Views.{fixedAt, groundOf, nodesOf, slotsOf, linksOf, asksOf, notesOf, Sizes, All, setCounters, setSlot, setTables, same-counters, same-slot, entry}
 use Rattle.serial.proofs.Change.{Rows, entered-rows, moved, slot-here, quietly, nothing-new, aborted-one, no-read, any-counters, counters-here, counters-away, sized, RaisedTo, rising, raised}

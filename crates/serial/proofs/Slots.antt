@@ -2,20 +2,18 @@
 -- Assumes nothing.
 use mathlib.Core.Path.{_≡_, refl, sym, ap, subst, _∙_}
 use mathlib.Core.Logic.{_≢_}
-use mathlib.Core.Bool.{Bool, true, false, cond, not, _&&_, _||_}
-use mathlib.Core.List.{List, [], _∷_, List·Memᴰ}
-use Prim.Native.Nat.{ℕ, suc, _+_, _*_, _-_, _/_, _%_, _≤_, _<_}
+use mathlib.Core.Bool.{true, false}
+use mathlib.Core.List.{List}
+use Prim.Native.Nat.{ℕ, suc, _+_, _-_, _≤_, _<_}
 use native.Mathlib.Omega.{arith}
 use native.Mathlib.Decide.{ℕ-discrete}
-use lib.Dec.{leb, ltb, eqb}
 use lib.ListN.{length}
-use borrow.Author.Tests.{ltb-true, leb-true, eqb-true}
+use borrow.Author.Tests.{leb-true, eqb-true}
 use Rattle.tables.specs.Table.{at, put}
 use Rattle.tables.specs.Pair.{pair, word}
-use Rattle.tables.specs.Loop.{each}
-use Rattle.tables.proofs.Choice.{by-test, and-true, or-false}
-use Rattle.tables.proofs.Table.{put-size, put-same, put-other}
-use Rattle.tables.proofs.Pair.{pair-inj, pair-fits}
+use Rattle.tables.proofs.Choice.{by-test, and-true}
+use Rattle.tables.proofs.Table.{put-same, put-other}
+use Rattle.tables.proofs.Pair.{pair-inj}
 use Rattle.tables.proofs.Loop.{each-size, each-hit, each-miss}
 use Rattle.tables.proofs.Tests.{Passed}
 use Rattle.kinds.specs.declared.Step.{Step}
@@ -25,18 +23,18 @@ use Rattle.group.specs.declared.Stage.{Stage}
 use Rattle.group.specs.declared.Snapshot.{Snapshot}
 use Rattle.group.specs.declared.Snapshot.the-variants.{Unfixed, Fixed}
 use Rattle.group.specs.declared.Stage.the-variants.{Unused, Open, Asking, Served, Voting, Committed, Aborted}
-use Rattle.group.specs.State.{State, holds, noted, has, stageNumber, askOf, noteOf, finalOf, inStage, atStage, slotAt, countersAt}
+use Rattle.group.specs.State.{State, holds, noted, has, stageNumber, askOf, noteOf, finalOf, atStage, slotAt, countersAt}
 use Rattle.counters.specs.declared.Counters.{Counters}
 use Rattle.group.specs.declared.Turn.{Turn}
 use Rattle.group.specs.declared.Answer.the-variants.{Done, Value}
 use Rattle.group.specs.Answer.{turn}
 use Rattle.read.specs.Read.{askTests, askFor, askTurn}
-use Rattle.score.specs.Desk.{Desk, placeOf, deskOf, putBack, turned}
+use Rattle.score.specs.Desk.{placeOf, deskOf, putBack, turned}
 use Rattle.score.specs.Steps.{cleared, opens, needs, does}
 use Rattle.serial.specs.Serial.{Handed}
-use Rattle.serial.proofs.Inv.{Nodes, Slots, Ground, Writes, Transaction, Reading, Given, Took, Inv}
+use Rattle.serial.proofs.Inv.{Nodes, Slots, Ground, Transaction, Reading}
 use Rattle.serial.proofs.Quiet.{QuietAt}
-use Rattle.serial.proofs.Views.{fixedAt, groundOf, nodesOf, slotsOf, linksOf, Sizes, All, setCounters, setSlot, setTables, same-counters, same-slot}
+use Rattle.serial.proofs.Views.{fixedAt, groundOf, nodesOf, slotsOf, Sizes, All, setCounters, setSlot, setTables, same-counters, same-slot}
 use Rattle.serial.proofs.Change.{Rows, no-rows, written-rows, moved, slot-here, quietly, nothing-new, early-one, aborted-one, no-read}
 
 -- no final number but for a committed one

@@ -1,11 +1,11 @@
 -- Every step keeps what holds: refused, cut and whole.
 -- Assumes nothing.
-use mathlib.Core.Path.{_≡_, refl, sym, ap, subst, subst₂, _∙_}
+use mathlib.Core.Path.{_≡_, refl, sym, ap, subst, _∙_}
 use mathlib.Core.Logic.{_≢_}
-use mathlib.Core.Bool.{Bool, true, false, cond, not, _&&_, _||_}
+use mathlib.Core.Bool.{Bool, true, false, cond, not, _||_}
 use mathlib.Core.List.{List, [], _∷_, _++_, List·Memᴰ, List·Memᴰ·tail}
 use mathlib.Core.Option.{Option, none, some}
-use Prim.Native.Nat.{ℕ, suc, _+_, _*_, _-_, _/_, _%_, _≤_, _<_}
+use Prim.Native.Nat.{ℕ, _+_, _-_, _%_, _<_}
 use native.Mathlib.Omega.{arith}
 use lib.Dec.{leb, ltb, eqb}
 use borrow.Author.Tests.{ltb-true, ltb-false, eqb-true}
@@ -18,24 +18,23 @@ use Rattle.counters.specs.Counters.{countedTo}
 use Rattle.counters.specs.declared.Counters.{Counters}
 use Rattle.kinds.specs.declared.Step.{Step}
 use Rattle.kinds.specs.declared.Fields.{Fields}
-use Rattle.kinds.specs.Kinds.{Kind, begin, write, ask, serve, return, commit, prepare, decide, giveUp, learn, apply, advance, abandon, names, named, isKnown, usesOf}
+use Rattle.kinds.specs.Kinds.{Kind, begin, write, ask, serve, return, commit, prepare, decide, giveUp, learn, apply, advance, abandon, named, usesOf}
 use Rattle.kinds.proofs.Laws.{usesBy, uses-named}
-use Rattle.number.specs.Proposal.{proposal, top, IsProposal, number, nothing}
+use Rattle.number.specs.Proposal.{proposal, IsProposal, number, nothing}
 use Rattle.number.proofs.Laws.{proposal-is}
 use Rattle.group.specs.declared.Answer.{Answer}
 use Rattle.group.specs.declared.Answer.the-variants.{Done, Value, Wait, Yes, No, Committed, Aborted, Cut, Refused}
-use Rattle.group.specs.State.{State, askOf, noteOf, finalOf, inStage, slotAt, countersAt, served, asking}
+use Rattle.group.specs.State.{State, noteOf, slotAt, countersAt}
 use Rattle.whole.specs.Whole.{whole}
-use Rattle.read.specs.Read.{readAt, spoilt, returnTurn}
-use Rattle.vote.specs.Vote.{reason, Vote, votes-yes, votes-no, voteFor, vote, voteRise, prepareTests}
+use Rattle.read.specs.Read.{spoilt, returnTurn}
+use Rattle.vote.specs.Vote.{reason, voteFor, vote, voteRise}
 use Rattle.settle.specs.Settle.{learnTests}
-use Rattle.score.specs.Desk.{Desk, nodeOf, placeOf, deskOf, putBack, Outcome, withCounters}
-use Rattle.score.specs.Steps.{fieldTests, needs, does, voteOf, rise, cuts, refuses, judge, act, Stepped, stepWhole, stepOf}
+use Rattle.score.specs.Desk.{nodeOf, placeOf, deskOf, putBack, Outcome}
+use Rattle.score.specs.Steps.{fieldTests, needs, does, rise, cuts, refuses, judge, act, stepWhole, stepOf}
 use Rattle.serial.specs.Serial.{Handed, Run, handedBy, next, runOf, Steps32}
-use Rattle.serial.proofs.Inv.{Slots, Handing, Inv}
-use Rattle.serial.proofs.Views.{groundOf, nodesOf, slotsOf, Sizes, All, setCounters, setSlot, setTables, same-counters, same-slot}
+use Rattle.serial.proofs.Views.{slotsOf, All, setCounters, setSlot, same-counters, same-slot}
 use Rattle.serial.proofs.Change.{any-counters, counted-to}
-use Rattle.serial.proofs.Slots.{no-final, begin-keeps, write-keeps, ask-keeps, give-up-keeps, abandon-keeps}
+use Rattle.serial.proofs.Slots.{begin-keeps, write-keeps, ask-keeps, give-up-keeps, abandon-keeps}
 use Rattle.serial.proofs.Reading.{serve-keeps, handing, return-hands, return-spoils, read-low, note-low}
 use Rattle.serial.proofs.Voting.{commit-keeps, prepare-keeps, decide-keeps}
 use Rattle.serial.proofs.Settling.{learn-keeps, apply-keeps, advance-keeps}
@@ -95,16 +94,16 @@ fewer first s h H a = record {
 
 -- ---- the fields that a kind uses
 
-record Fields-in (s : State) (x : Step) (k : Kind) : Type 0 where
-  node : usesBy k .node ≡ true → x .node < s .group .nodes
-  slot : usesBy k .slot ≡ true → x .slot < 32
-  cell : usesBy k .cell ≡ true → x .cell < s .group .cells
+pub record Fields-in (s : State) (x : Step) (k : Kind) : Type 0 where
+  pub node : usesBy k .node ≡ true → x .node < s .group .nodes
+  pub slot : usesBy k .slot ≡ true → x .slot < 32
+  pub cell : usesBy k .cell ≡ true → x .cell < s .group .cells
 
 used : (b c : Bool) → (not b || c) ≡ true → b ≡ true → c ≡ true
 used true c e d = e
 used false c e d = absurd (not-both d refl)
 
-fields-in : (s : State) (x : Step) (k : Kind) (ts : List (Bool × ℕ)) → named (x .kind) ≡ k → Passed (fieldTests (s .group .nodes) (s .group .cells) x ts) → Fields-in s x k
+pub fields-in : (s : State) (x : Step) (k : Kind) (ts : List (Bool × ℕ)) → named (x .kind) ≡ k → Passed (fieldTests (s .group .nodes) (s .group .cells) x ts) → Fields-in s x k
 fields-in s x k ts e o =
     let u : usesOf (x .kind) ≡ usesBy k = uses-named (x .kind) (o .0) ∙ ap usesBy e in
     let b = and-true _ _ (o .1 .1 .0) in
@@ -113,6 +112,15 @@ fields-in s x k ts e o =
       slot = λ d. ltb-true _ _ (used _ _ (b .0) (ap (λ (f : Fields). f .slot) u ∙ d));
       cell = λ d. ltb-true _ _ (used _ _ (b .1) (ap (λ (f : Fields). f .cell) u ∙ d));
     }
+
+-- the step's node, by its kind
+pub at-kind : (s : State) (x : Step) (k : Kind) → named (x .kind) ≡ k → placeOf s x ≡ nodeOf k (slotAt s (x .slot)) (x .node)
+at-kind s x k e = ap (λ (j : Kind). nodeOf j (slotAt s (x .slot)) (x .node)) e
+
+-- a final number is one that a node has counted
+pub final-low : (first : ℕ → ℕ) (s : State) (H : List Handed) → All first s H → (t : ℕ) → t < 32 → slotsOf s .fin t < word
+final-low first s H a t ht = by-test (ltb 0 (slotsOf s .fin t))
+    (λ z. omega (arith, a .inv .numbering .given t ht (ltb-true _ _ z), a .inv .counting .fits (slotsOf s .fin t % 8) (omega arith))) (λ z. omega (arith, ltb-false))
 
 -- ---- a whole step
 
@@ -123,15 +131,6 @@ module _ (first : ℕ → ℕ) (s : State) (H : List Handed) (a : All first s H)
   quietly-done : (k : Kind) → Other k → named (x .kind) ≡ k → All first (putBack s x (does (deskOf s x) x k .desk)) H → After (does (deskOf s x) x k)
   quietly-done k d e b = subst (λ (l : List Handed). All first (putBack s x (does (deskOf s x) x k .desk)) (l ++ H))
       (sym (nothing-handed s x (does (deskOf s x) x k .answer) (five (x .kind) (λ z. other k d (sym e ∙ z))))) b
-
-  -- the step's node, by its kind
-  at-kind : (k : Kind) → named (x .kind) ≡ k → placeOf s x ≡ nodeOf k (slotAt s (x .slot)) (x .node)
-  at-kind k e = ap (λ (j : Kind). nodeOf j (slotAt s (x .slot)) (x .node)) e
-
-  -- a final number is one that a node has counted
-  final-low : (t : ℕ) → t < 32 → slotsOf s .fin t < word
-  final-low t ht = by-test (ltb 0 (slotsOf s .fin t))
-      (λ z. omega (arith, a .inv .numbering .given t ht (ltb-true _ _ z), a .inv .counting .fits (slotsOf s .fin t % 8) (omega arith))) (λ z. omega (arith, ltb-false))
 
   returns : Fields-in s x return → Passed (needs (deskOf s x) x return) → After (does (deskOf s x) x return)
   unfolding needs does deskOf returnTurn
@@ -156,15 +155,15 @@ module _ (first : ℕ → ℕ) (s : State) (H : List Handed) (a : All first s H)
   kinds-keep begin e f o = quietly-done begin tt e (begin-keeps first s H a x (f .slot refl) o)
   kinds-keep write e f o = quietly-done write tt e (write-keeps first s H a x (f .slot refl) (f .cell refl) hv o)
   kinds-keep ask e f o = quietly-done ask tt e (ask-keeps first s H a x (f .slot refl) (omega (arith, any-counters first s H a (placeOf s x))) (f .node refl) (f .cell refl) o)
-  kinds-keep serve e f o = quietly-done serve tt e (serve-keeps first s H a x (f .slot refl) (at-kind serve e) o)
+  kinds-keep serve e f o = quietly-done serve tt e (serve-keeps first s H a x (f .slot refl) (at-kind s x serve e) o)
   kinds-keep return e f o = returns f o
   kinds-keep commit e f o = quietly-done commit tt e (commit-keeps first s H a x (f .slot refl) o)
-  kinds-keep prepare e f o = quietly-done prepare tt e (prepare-keeps first s H a x (f .slot refl) (f .node refl) (at-kind prepare e) o)
+  kinds-keep prepare e f o = quietly-done prepare tt e (prepare-keeps first s H a x (f .slot refl) (f .node refl) (at-kind s x prepare e) o)
   kinds-keep decide e f o = quietly-done decide tt e (decide-keeps first s H a x (f .slot refl) o)
   kinds-keep giveUp e f o = quietly-done giveUp tt e (give-up-keeps first s H a x (f .slot refl) o)
-  kinds-keep learn e f o = quietly-done learn tt e (learn-keeps first s H a x (f .slot refl) (f .node refl) (at-kind learn e) o)
-  kinds-keep apply e f o = quietly-done apply tt e (apply-keeps first s H a x (f .node refl) (at-kind apply e) o)
-  kinds-keep advance e f o = quietly-done advance tt e (advance-keeps first s H a x (f .node refl) (at-kind advance e) o)
+  kinds-keep learn e f o = quietly-done learn tt e (learn-keeps first s H a x (f .slot refl) (f .node refl) (at-kind s x learn e) o)
+  kinds-keep apply e f o = quietly-done apply tt e (apply-keeps first s H a x (f .node refl) (at-kind s x apply e) o)
+  kinds-keep advance e f o = quietly-done advance tt e (advance-keeps first s H a x (f .node refl) (at-kind s x advance e) o)
   kinds-keep abandon e f o = quietly-done abandon tt e (abandon-keeps first s H a x (f .slot refl) o)
 
   -- ---- a cut step
@@ -180,13 +179,13 @@ module _ (first : ℕ → ℕ) (s : State) (H : List Handed) (a : All first s H)
   rises-low begin e f o = omega arith
   rises-low write e f o = omega arith
   rises-low ask e f o = omega arith
-  rises-low serve e f o = read-low first s H a x (f .slot refl) (eqb-true _ _ (o .0)) (at-kind serve e)
+  rises-low serve e f o = read-low first s H a x (f .slot refl) (eqb-true _ _ (o .0)) (at-kind s x serve e)
   rises-low return e f o = note-low first s H a x (f .slot refl) (eqb-true _ _ (o .0))
   rises-low commit e f o = omega arith
   rises-low prepare e f o = votes-low (countersAt s (placeOf s x)) (x .node) (reason (slotAt s (x .slot)) (countersAt s (placeOf s x)) (s .group .cells) (s .group .masks) (s .flight) (s .chains) (s .writes) (s .reads) (x .slot) (x .node)) (proposal (x .node) (countersAt s (placeOf s x) .counter)) (proposal-is (x .node) (countersAt s (placeOf s x) .counter))
   rises-low decide e f o = omega arith
   rises-low giveUp e f o = omega arith
-  rises-low learn e f o = final-low (x .slot) (f .slot refl)
+  rises-low learn e f o = final-low first s H a (x .slot) (f .slot refl)
   rises-low apply e f o = omega arith
   rises-low advance e f o = omega arith
   rises-low abandon e f o = omega arith

@@ -4,7 +4,7 @@ use mathlib.Core.Path.{_≡_, refl, sym, ap, _∙_}
 use mathlib.Core.Logic.{_≢_}
 use mathlib.Core.Bool.{Bool, true, false, cond, _&&_}
 use mathlib.Core.List.{List}
-use Prim.Native.Nat.{ℕ, zero, suc, _+_, _*_, _-_, _≤_, _<_}
+use Prim.Native.Nat.{ℕ, zero, suc, _-_, _≤_, _<_}
 use native.Mathlib.Numerals.{add-one}
 use native.Mathlib.Omega.{arith}
 use native.Mathlib.Decide.{ℕ-discrete}
@@ -14,7 +14,6 @@ use Rattle.tables.specs.Loop.{turns}
 use Rattle.tables.proofs.Choice.{by-test, not-both, and-true}
 use Rattle.tables.proofs.Pair.{pair-inj}
 use Rattle.chain.specs.Chain.{Chains, lenAt, versionAt, added}
-use Rattle.chain.specs.declared.Version.{Version}
 use Rattle.chain.proofs.Laws.{added-lens, added-versions, added-len, added-len-other, added-version, added-version-other}
 use Rattle.group.specs.State.{holds, noted, has}
 use Rattle.settle.specs.Settle.{stored}

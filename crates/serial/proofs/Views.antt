@@ -1,16 +1,15 @@
 -- The views of a state, the changes that steps are made of, and what a view shows after each.
 -- Assumes nothing.
-use mathlib.Core.Path.{_≡_, refl, sym, ap, _∙_}
-use mathlib.Core.Logic.{_≢_}
-use mathlib.Core.Bool.{Bool, true, false}
+use mathlib.Core.Path.{_≡_, ap, _∙_}
+use mathlib.Core.Bool.{true}
 use mathlib.Core.List.{List}
-use Prim.Native.Nat.{ℕ, suc, _+_, _*_, _/_, _%_, _≤_, _<_}
+use Prim.Native.Nat.{ℕ, suc, _/_, _%_, _≤_, _<_}
 use native.Mathlib.Omega.{arith}
 use native.Mathlib.Decide.{ℕ-discrete}
 use lib.ListN.{length}
 use Rattle.tables.specs.Table.{at, put}
 use Rattle.tables.specs.Pair.{pair, word}
-use Rattle.tables.proofs.Table.{put-size, put-same, put-other, put-at}
+use Rattle.tables.proofs.Table.{put-same, put-other, put-at}
 use Rattle.tables.proofs.Pair.{pair-high, pair-low, pair-inj}
 use Rattle.counters.specs.Counters.{zeroed}
 use Rattle.counters.specs.declared.Counters.{Counters}

@@ -3,30 +3,29 @@
 use mathlib.Core.Path.{_≡_, refl, sym, ap, subst, fun-ext, _∙_}
 use mathlib.Core.Logic.{_≢_}
 use mathlib.Core.Bool.{Bool, true, false, cond, not, _&&_, _||_}
-use mathlib.Core.List.{List, [], _∷_, List·Memᴰ}
+use mathlib.Core.List.{List}
 use mathlib.Core.Option.{Option, none, some}
-use Prim.Native.Nat.{ℕ, suc, _+_, _*_, _-_, _/_, _%_, _≤_, _<_}
+use Prim.Native.Nat.{ℕ, _+_, _-_, _/_, _≤_, _<_}
 use native.Mathlib.Omega.{arith}
 use native.Mathlib.Decide.{ℕ-discrete}
-use lib.Dec.{leb, ltb, eqb}
+use lib.Dec.{ltb, eqb}
 use lib.ListN.{length}
-use borrow.Author.Tests.{ltb-true, ltb-false, leb-true, leb-false, eqb-true, eqb-false, eq-eqb, ne-eqb, le-leb, lt-ltb, le-ltb, not-true}
+use borrow.Author.Tests.{ltb-true, ltb-false, eqb-true, eqb-false, eq-eqb, ne-eqb, lt-ltb, not-true}
 use Rattle.tables.specs.Table.{at, put}
 use Rattle.tables.specs.Pair.{pair, word}
-use Rattle.tables.specs.Loop.{any, each, largest}
-use Rattle.tables.specs.Tests.{refusal}
-use Rattle.tables.proofs.Choice.{by-test, and-true, or-false, not-both, not-not}
-use Rattle.tables.proofs.Table.{put-size, put-same, put-other}
-use Rattle.tables.proofs.Pair.{pair-inj, pair-high, pair-low}
+use Rattle.tables.specs.Loop.{any, largest}
+use Rattle.tables.proofs.Choice.{by-test, or-false, not-both, not-not}
+use Rattle.tables.proofs.Table.{put-size, put-other}
+use Rattle.tables.proofs.Pair.{pair-inj, pair-high}
 use Rattle.tables.proofs.Loop.{any-at, any-has, any-where, Where, found, each-size, each-hit, each-miss, largest-at, largest-reached, Reached, empty, reached}
 use Rattle.tables.proofs.Tests.{Passed, passed}
-use Rattle.number.specs.Proposal.{proposal, top, IsProposal, number, nothing}
+use Rattle.number.specs.Proposal.{proposal, IsProposal, number, nothing}
 use Rattle.number.proofs.Laws.{proposal-is}
 use Rattle.counters.specs.Counters.{countedTo}
 use Rattle.counters.specs.declared.Counters.{Counters}
 use Rattle.kinds.specs.declared.Step.{Step}
 use Rattle.kinds.specs.Kinds.{commit, prepare, decide}
-use Rattle.chain.specs.Chain.{Chains, lenAt, latest, hasRoom, versionAt, size}
+use Rattle.chain.specs.Chain.{Chains, lenAt, latest, hasRoom}
 use Rattle.chain.proofs.Laws.{size-in, latest-some}
 use Rattle.group.specs.declared.Slot.{Slot}
 use Rattle.group.specs.declared.Stage.{Stage}
@@ -34,25 +33,24 @@ use Rattle.group.specs.declared.Snapshot.{Snapshot}
 use Rattle.group.specs.declared.Snapshot.the-variants.{Unfixed, Fixed}
 use Rattle.group.specs.declared.Stage.the-variants.{Voting, Committed, Aborted}
 use Rattle.group.specs.declared.Turn.{Turn}
-use Rattle.group.specs.declared.Answer.the-variants.{Done, Yes, No}
 use Rattle.group.specs.declared.Answer.the-variants as Answer
 use Rattle.group.specs.Answer.{turn}
-use Rattle.group.specs.State.{State, holds, sent, votedNo, votedYes, tagAt, numberAt, entered, unfinished, noted, has, writer, involved, stageNumber, askOf, noteOf, finalOf, snapshotOf, inStage, atStage, slotAt, countersAt}
-use Rattle.vote.specs.Vote.{commitTurn, sentTo, commitFlight, prepareTests, bars, conflict, outdated, full, exists, reason, Vote, votes-yes, votes-no, voteFor, vote, prepareTurn, prepareFlight, refusedBy, lacking, decideTests, final, decideTurn}
+use Rattle.group.specs.State.{State, holds, sent, votedNo, votedYes, tagAt, numberAt, entered, unfinished, noted, has, writer, involved, stageNumber, askOf, noteOf, finalOf, snapshotOf, atStage, slotAt, countersAt}
+use Rattle.vote.specs.Vote.{commitTurn, sentTo, commitFlight, prepareTests, bars, conflict, outdated, full, reason, votes-yes, votes-no, voteFor, vote, prepareTurn, prepareFlight, refusedBy, lacking, decideTests, final, decideTurn}
 use Rattle.score.specs.Desk.{placeOf, deskOf, putBack, turned, withFlight}
-use Rattle.score.specs.Steps.{needs, does, voteOf}
+use Rattle.score.specs.Steps.{needs, does}
 use Rattle.serial.specs.Serial.{Handed}
-use Rattle.serial.proofs.Inv.{Nodes, Slots, Links, Ground, Writes, writes, Transaction, Into, into, Reading, Given, Took, Inv}
+use Rattle.serial.proofs.Inv.{Nodes, Slots, Ground, Writes, writes, Transaction, Into, into, Inv}
 use Rattle.serial.proofs.Quiet.{QuietAt}
 use Rattle.serial.proofs.Joins.{Entry, here, away, withEntries, JoinsAt, joins}
-use Rattle.serial.proofs.Decided.{DecidesAt, decided}
+use Rattle.serial.proofs.Decided.{decided}
 use Rattle.serial.proofs.Views.{fixedAt, groundOf, nodesOf, slotsOf, linksOf, asksOf, notesOf, Sizes, All, setCounters, setSlot, setTables, same-counters, same-slot, entry}
 use Rattle.serial.proofs.Change.{Rows, entered-rows, moved, slot-here, quietly, nothing-new, no-writer, no-read, any-counters, counters-here, counters-away, sized, RaisedTo, rising}
 use Rattle.serial.proofs.Slots.{free, undecided, restaged, stage-here, final-here, snap-here, aborts, turned-slot}
 use Rattle.serial.proofs.Reading.{pends}
 
 -- a holder of a cell that was read or written is involved
-involves : (cells : ℕ) (masks w r : List ℕ) (t n c : ℕ) → c < cells → holds masks n c ≡ true → 0 < noted r t c + noted w t c → involved cells masks w r t n ≡ true
+pub involves : (cells : ℕ) (masks w r : List ℕ) (t n c : ℕ) → c < cells → holds masks n c ≡ true → 0 < noted r t c + noted w t c → involved cells masks w r t n ≡ true
 unfolding involved
 involves cells masks w r t n c hc o l = any-has _ cells c hc (rw o (by-test (has r t c) (λ z. rw z) (λ z. rw z (lt-ltb 0 (noted w t c) (omega (arith, ltb-false))))))
 

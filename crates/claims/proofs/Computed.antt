@@ -1,0 +1,28 @@
+-- The examples, computed from the definitions.
+-- Assumes nothing.
+use mathlib.Core.Path.{refl}
+use Rattle.tables.specs.Table.{at, put}
+use Rattle.tables.specs.Loop.{any, every, turns, largest, lastAt, lesser, leastAt, each}
+use Rattle.tables.specs.Tests.{refusal}
+use Rattle.number.specs.Proposal.{upToTop, next, proposal}
+use Rattle.kinds.specs.Kinds.{usesOf, named}
+use Rattle.chain.specs.Chain.{lenAt, size, versionAt, newest, latest, hasRoom, added}
+use Rattle.group.specs.State.{unfinished, writer, involved}
+use Rattle.group.specs.Fresh.{freshLens, freshVersions, fresh}
+use Rattle.whole.specs.Whole.{masksSound, entrySound, flightSound, notesSound, placesSound, setsSound, slotSound, spread, empty, votingSound, committedSound, transactionSound, chainSound, chainsSound, pendingSound, whole}
+use Rattle.read.specs.Read.{askTests, askTurn, readAt, blocks, blocked, noteFor, serveTurn, returnTurn, returnReads}
+use Rattle.vote.specs.Vote.{commitTurn, sentTo, commitFlight, prepareTests, bars, conflict, outdated, full, reason, vote, refusedBy, lacking, decideTests, final, decideTurn}
+use Rattle.settle.specs.Settle.{learnTests, learnTurn, learnFlight, least, stored, advanceTests}
+use Rattle.score.specs.Desk.{deskOf, putBack}
+use Rattle.score.specs.Steps.{needs, cleared, does, rise, cuts, act, stepWhole, stepOf}
+use Rattle.claims.specs.Runs.{answers, replies}
+use Rattle.claims.specs.Example.{AllHold}
+use Rattle.claims.specs.Starred.{starred}
+use Rattle.claims.specs.Pinned.{pinned}
+
+pub computed : AllHold starred × AllHold pinned
+unfolding at put any every turns largest lastAt lesser leastAt each refusal upToTop next proposal usesOf named lenAt size versionAt newest latest hasRoom added unfinished writer involved freshLens freshVersions fresh askTests askTurn readAt blocks blocked noteFor serveTurn returnTurn returnReads commitTurn sentTo commitFlight prepareTests bars conflict outdated full reason vote refusedBy lacking decideTests final decideTurn learnTests learnTurn learnFlight least stored advanceTests deskOf putBack needs cleared does rise cuts act stepWhole stepOf masksSound entrySound flightSound notesSound placesSound setsSound slotSound spread empty votingSound committedSound transactionSound chainSound chainsSound pendingSound whole answers replies
+computed = (
+  (refl, (refl, (refl, (refl, (refl, (refl, (refl, (refl, (refl, (refl, tt)))))))))),
+  (refl, (refl, (refl, (refl, (refl, (refl, (refl, (refl, (refl, (refl, ((refl, refl), ((refl, refl), tt)))))))))))),
+)
