@@ -1,2 +1,4 @@
 pub mod Desk
 pub mod Steps
+pub mod Ready
+pub mod Parts

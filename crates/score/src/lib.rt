@@ -1,1 +1,277 @@
-// The step of a group as a definition. The code is to come.
+// The step.
+mod by_kind;
+mod plain;
+
+use counters::Counters;
+use group::Answer;
+use group::Group;
+use group::Slot;
+use group::Snapshot;
+use group::Stage;
+use group::Turn;
+use kinds::Step;
+ghost use mathlib.Core.Path.{_≡_};
+ghost use mathlib.Core.Bool.{true, not, _||_};
+ghost use Prim.Native.Nat.{_≤_};
+ghost use lib.Dec.{ltb};
+ghost use Rattle.tables.specs.Table.{at, put};
+ghost use Rattle.counters.specs.Counters.{zeroed};
+ghost use Rattle.chain.specs.Chain.{chains};
+ghost use Rattle.kinds.specs.Kinds.{named};
+ghost use Rattle.group.specs.State.{noSlot};
+ghost use Rattle.whole.specs.Whole.{whole};
+ghost use Rattle.score.specs.Desk.{nodeOf, desk, stateOf};
+ghost use Rattle.score.specs.Steps.{act as isAct, stepWhole, stepOf};
+ghost use Rattle.score.specs.Ready.{Ready};
+ghost use Rattle.score.specs.Parts.{codeOf, fieldRefusal, outcome, reached};
+
+pub struct After {
+    pub answer: Answer,
+    pub group: Group,
+}
+
+// Refusals 16 to 18, or none of them.
+enum Fault {
+    Code(u32),
+    Nothing,
+}
+
+// Does a field that is used name one of the first `count`; one that is not used does not matter.
+fn inside(used: bool, i: u8, count: u8) -> bool
+    ensures { λ r. ⌜ r ≡ (not used || ltb i count) ⌝ }
+{
+    !used || i < count
+}
+
+// Refusals 16 to 18, by the table of kinds.
+fn field_fault(nodes: u8, cells: u8, x: Step) -> Fault
+    ensures { λ r. ⌜ codeOf r ≡ fieldRefusal nodes cells x ⌝ }
+{
+    let known = kinds::known(x.kind);
+    let u = kinds::uses(x.kind);
+    let node = inside(u.node, x.node, nodes);
+    let slot = inside(u.slot, x.slot, 32);
+    let cell = inside(u.cell, x.cell, cells);
+    if !known {
+        return Fault::Code(16);
+    }
+    if !node {
+        return Fault::Code(17);
+    }
+    if !(slot & cell) {
+        return Fault::Code(18);
+    }
+    Fault::Nothing
+}
+
+// The node whose counters the step may move.
+fn place(x: Step, slot: Slot) -> u8
+    ensures { λ r. ⌜ r ≡ nodeOf (named (x .kind)) slot (x .node) ⌝ }
+{
+    let st = slot.stage;
+    let a = group::ask_of(st);
+    let k = kinds::whole(x.kind);
+    if k == 3 {
+        return slot.origin;
+    }
+    if k == 4 {
+        return a.node;
+    }
+    if k == 5 {
+        return slot.origin;
+    }
+    x.node
+}
+
+// The step of a transaction's slot and a node's counters, over the tables: refusals 16 to 18 come first, then its kind.
+pub fn act(
+    x: Step,
+    slot: Slot,
+    c: Counters,
+    nodes: u8,
+    cells: u8,
+    masks: &[u8; 32],
+    flight: &mut [u64; 256],
+    lens: &mut [u8; 256],
+    versions: &mut [u64; 2048],
+    writes: &mut [u64; 1024],
+    reads: &mut [u64; 1024],
+) -> Turn
+    requires { ⌜ Ready nodes cells slot (now writes) ⌝ }
+    ensures { λ r. ⌜ outcome r nodes cells (now (masks .entry)) (now (flight .exit)) (chains (now (lens .exit)) (now (versions .exit))) (now (writes .exit)) (now (reads .exit)) ≡ isAct (desk nodes cells (now (masks .entry)) slot c (now (flight .entry)) (chains (now (lens .entry)) (now (versions .entry))) (now (writes .entry)) (now (reads .entry))) x ⌝ }
+{
+    let fault = field_fault(nodes, cells, x);
+    if let Fault::Code(code) = fault {
+        return group::refused(code, slot, c);
+    }
+    let k = kinds::whole(x.kind);
+    if k <= 5 {
+        return by_kind::to_return(
+            x,
+            slot,
+            c,
+            nodes,
+            cells,
+            masks,
+            flight,
+            lens,
+            versions,
+            writes,
+            reads,
+        );
+    }
+    if k <= 9 {
+        return by_kind::to_give_up(
+            x,
+            slot,
+            c,
+            nodes,
+            cells,
+            masks,
+            flight,
+            lens,
+            versions,
+            writes,
+            reads,
+        );
+    }
+    by_kind::to_abandon(
+        x,
+        slot,
+        c,
+        nodes,
+        cells,
+        masks,
+        flight,
+        lens,
+        versions,
+        writes,
+        reads,
+    )
+}
+
+// ---- the one slot and the one node's counters, taken and put back
+
+fn no_slot() -> Slot
+    ensures { λ r. ⌜ r ≡ noSlot ⌝ }
+{
+    Slot {
+        stage: Stage::Unused,
+        origin: 0,
+        update: false,
+        snapshot: Snapshot::Unfixed,
+    }
+}
+
+// Only a step that is refused, or that uses no slot, has none.
+fn slot_at(slots: [Slot; 32], t: u8) -> Slot
+    ensures { λ r. ⌜ (r ≡ at slots t noSlot) × (32 ≤ t → r ≡ noSlot) ⌝ }
+{
+    if 32 <= t {
+        return no_slot();
+    }
+    slots[t as usize]
+}
+
+fn put_slot(slots: [Slot; 32], t: u8, slot: Slot) -> [Slot; 32]
+    ensures { λ r. ⌜ r ≡ put slots t slot ⌝ }
+{
+    if 32 <= t {
+        return slots;
+    }
+    let mut slots = slots;
+    slots[t as usize] = slot;
+    slots
+}
+
+fn counters_at(counters: [Counters; 8], n: u8) -> Counters
+    ensures { λ r. ⌜ r ≡ at counters n (zeroed 0) ⌝ }
+{
+    if 8 <= n {
+        return Counters {
+            counter: 0,
+            commit: 0,
+            seen: 0,
+        };
+    }
+    counters[n as usize]
+}
+
+fn put_counters(counters: [Counters; 8], n: u8, c: Counters) -> [Counters; 8]
+    ensures { λ r. ⌜ r ≡ put counters n c ⌝ }
+{
+    if 8 <= n {
+        return counters;
+    }
+    let mut counters = counters;
+    counters[n as usize] = c;
+    counters
+}
+
+// The step of a whole state.
+pub fn step_whole(
+    g: Group,
+    flight: &mut [u64; 256],
+    lens: &mut [u8; 256],
+    versions: &mut [u64; 2048],
+    writes: &mut [u64; 1024],
+    reads: &mut [u64; 1024],
+    x: Step,
+) -> After
+    requires { ⌜ whole (stateOf g (now flight) (chains (now lens) (now versions)) (now writes) (now reads)) ≡ true ⌝ }
+    ensures { λ r. ⌜ reached r (now (flight .exit)) (chains (now (lens .exit)) (now (versions .exit))) (now (writes .exit)) (now (reads .exit)) ≡ stepWhole (stateOf g (now (flight .entry)) (chains (now (lens .entry)) (now (versions .entry))) (now (writes .entry)) (now (reads .entry))) x ⌝ }
+{
+    let slots = g.slots;
+    let counters = g.counters;
+    let masks = g.masks;
+    let slot = slot_at(slots, x.slot);
+    let n = place(x, slot);
+    let c = counters_at(counters, n);
+    let turn = act(
+        x,
+        slot,
+        c,
+        g.nodes,
+        g.cells,
+        &masks,
+        flight,
+        lens,
+        versions,
+        writes,
+        reads,
+    );
+    let slot = turn.slot;
+    let c = turn.counters;
+    let answer = turn.answer;
+    let slots = put_slot(slots, x.slot, slot);
+    let counters = put_counters(counters, n, c);
+    let group = Group {
+        nodes: g.nodes,
+        cells: g.cells,
+        counters,
+        masks,
+        slots,
+    };
+    After { answer, group }
+}
+
+// The step of any state: refused with 15 where it is not whole.
+pub fn step(
+    g: Group,
+    flight: &mut [u64; 256],
+    lens: &mut [u8; 256],
+    versions: &mut [u64; 2048],
+    writes: &mut [u64; 1024],
+    reads: &mut [u64; 1024],
+    x: Step,
+) -> After
+    ensures { λ r. ⌜ reached r (now (flight .exit)) (chains (now (lens .exit)) (now (versions .exit))) (now (writes .exit)) (now (reads .exit)) ≡ stepOf (stateOf g (now (flight .entry)) (chains (now (lens .entry)) (now (versions .entry))) (now (writes .entry)) (now (reads .entry))) x ⌝ }
+{
+    if !whole::whole(g, flight, lens, versions, writes, reads) {
+        return After {
+            answer: Answer::Refused(15),
+            group: g,
+        };
+    }
+    step_whole(g, flight, lens, versions, writes, reads, x)
+}
