@@ -3,7 +3,7 @@
 -- Assumes nothing.
 use mathlib.Core.Path.{_≡_, refl}
 use mathlib.Core.Logic.{_≢_}
-use mathlib.Core.List.{List}
+use mathlib.Core.List.{List, []}
 use mathlib.Core.Option.{Option}
 use Prim.Native.Nat.{ℕ}
 use Rattle.tables.specs.Table.{at}
@@ -12,9 +12,18 @@ use Rattle.number.proofs.Laws.{proposal-is, proposal-only}
 use Rattle.kinds.specs.declared.Step.{Step}
 use Rattle.kinds.specs.Kinds.{Kind}
 use Rattle.group.specs.declared.Answer.the-variants.{Cut, Refused}
+use Rattle.group.specs.State.{State}
+use Rattle.chain.specs.Chain.{Chains}
+use Rattle.score.specs.declared.After.{After}
+use Rattle.score.specs.Parts.{reached}
+use Rattle.score.proofs.WholeLaws.{step-only}
 use Rattle.score.specs.Desk.{Desk}
 use Rattle.score.specs.Steps.{does, cuts, stepWhole, stepOf}
-use Rattle.serial.specs.Serial.{Sound, Steps32, start, runOf, Serial}
+use Rattle.little.proofs.Laws.{Bytes}
+use Rattle.runfile.specs.File.{File, got, bytesOf, readFile}
+use Rattle.runfile.proofs.BothWays.{Sound, read-written, written-read, one-run, one-file, Outcome, outcome}
+use Rattle.serial.specs.Serial as Group
+use Rattle.serial.specs.Serial.{Steps32, start, runOf, Serial}
 use Rattle.serial.proofs.Theorem.{serial}
 use Rattle.serial.proofs.CutLaw.{withCounter, cut-law}
 use Rattle.serial.proofs.Never as Never
@@ -23,7 +32,14 @@ use Rattle.claims.specs.Starred.{starred}
 use Rattle.claims.specs.Pinned.{pinned}
 use Rattle.claims.proofs.Computed.{computed}
 
--- ---- demand 2
+-- ---- demands 1 and 2
+
+-- The contract of the step is its whole outcome: two that meet it are equal, the answer, the state and every lent table.
+pub step-decided :
+    (s : State) (x : Step) (r r′ : After) (flight flight′ : List ℕ) (h h′ : Chains) (writes writes′ reads reads′ : List ℕ)
+    → reached r flight h writes reads ≡ stepOf s x → reached r′ flight′ h′ writes′ reads′ ≡ stepOf s x
+    → (r ≡ r′) × (flight ≡ flight′) × (h ≡ h′) × (writes ≡ writes′) × (reads ≡ reads′)
+step-decided = step-only
 
 -- The proposal rule, for every node number and every counter: what is proposed is what the paper says ..
 pub proposal-rule : (n c : ℕ) → IsProposal n c (proposal n c)
@@ -45,19 +61,38 @@ starred-examples = computed .0
 pub pinned-examples : AllHold pinned
 pinned-examples = computed .1
 
+-- Run files. Reading what was written gives the same run back ..
+pub read-back : (f : File) → Sound f → readFile (bytesOf f) ≡ got f []
+read-back = read-written
+
+-- .. and writing what was read the same bytes: a file that is read stands for a sound run, and is the file of that run.
+pub written-back : (b : List ℕ) (f : File) (r : List ℕ) → Bytes b → readFile b ≡ got f r → (b ≡ bytesOf f) × Sound f × (r ≡ [])
+written-back = written-read
+
+-- One run, one file: two runs with one file are equal, and two files for one run.
+pub one-run-a-file : (f g : File) → Sound f → Sound g → bytesOf f ≡ bytesOf g → f ≡ g
+one-run-a-file = one-run
+
+pub one-file-a-run : (b c : List ℕ) (f : File) → Bytes b → Bytes c → readFile b ≡ got f [] → readFile c ≡ got f [] → b ≡ c
+one-file-a-run = one-file
+
+-- Any bytes are the file of a sound run, or have one fault of 32 to 36.
+pub sound-or-faulty : (b : List ℕ) → Bytes b → Outcome b
+sound-or-faulty = outcome
+
 -- ---- demand 3
 
 -- From a fresh run of any sound group, after any steps, refused and cut ones among them: distinct numbers, and every value ever handed out
 -- explained by running the committed writers one by one on one copy.
-pub serial-statement : (nodes cells : ℕ) (counters masks values : List ℕ) → Sound nodes cells counters masks values → (xs : List Step) → Steps32 xs
+pub serial-statement : (nodes cells : ℕ) (counters masks values : List ℕ) → Group.Sound nodes cells counters masks values → (xs : List Step) → Steps32 xs
     → Serial (λ c. at values c 0) (runOf (start nodes cells counters masks values) xs)
 serial-statement = serial
 
 -- Never 15: no step of such a run answers it, and the step that doesn't test for a whole state is the step.
-pub never-15 : (nodes cells : ℕ) (counters masks values : List ℕ) → Sound nodes cells counters masks values → (xs : List Step) → Steps32 xs → (x : Step)
+pub never-15 : (nodes cells : ℕ) (counters masks values : List ℕ) → Group.Sound nodes cells counters masks values → (xs : List Step) → Steps32 xs → (x : Step)
     → stepOf (runOf (start nodes cells counters masks values) xs .state) x .answer ≢ Refused 15
 never-15 = Never.never-15
 
-pub inner-step : (nodes cells : ℕ) (counters masks values : List ℕ) → Sound nodes cells counters masks values → (xs : List Step) → Steps32 xs → (x : Step)
+pub inner-step : (nodes cells : ℕ) (counters masks values : List ℕ) → Group.Sound nodes cells counters masks values → (xs : List Step) → Steps32 xs → (x : Step)
     → stepOf (runOf (start nodes cells counters masks values) xs .state) x ≡ stepWhole (runOf (start nodes cells counters masks values) xs .state) x
 inner-step = Never.inner-step

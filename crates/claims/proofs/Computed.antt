@@ -1,6 +1,7 @@
 -- The examples, computed from the definitions.
 -- Assumes nothing.
 use mathlib.Core.Path.{refl}
+use mathlib.Core.List.{[]}
 use Rattle.tables.specs.Table.{at, put}
 use Rattle.tables.specs.Loop.{any, every, turns, largest, lastAt, lesser, leastAt, each}
 use Rattle.tables.specs.Tests.{refusal}
@@ -15,6 +16,7 @@ use Rattle.vote.specs.Vote.{commitTurn, sentTo, commitFlight, prepareTests, bar
 use Rattle.settle.specs.Settle.{learnTests, learnTurn, learnFlight, least, stored, advanceTests}
 use Rattle.score.specs.Desk.{deskOf, putBack}
 use Rattle.score.specs.Steps.{needs, cleared, does, rise, cuts, act, stepWhole, stepOf}
+use Rattle.runfile.proofs.Examples.{nothing-there, no-nodes, nine-nodes}
 use Rattle.claims.specs.Runs.{answers, replies}
 use Rattle.claims.specs.Example.{AllHold}
 use Rattle.claims.specs.Starred.{starred}
@@ -23,6 +25,6 @@ use Rattle.claims.specs.Pinned.{pinned}
 pub computed : AllHold starred × AllHold pinned
 unfolding at put any every turns largest lastAt lesser leastAt each refusal upToTop next proposal usesOf named lenAt size versionAt newest latest hasRoom added unfinished writer involved freshLens freshVersions fresh askTests askTurn readAt blocks blocked noteFor serveTurn returnTurn returnReads commitTurn sentTo commitFlight prepareTests bars conflict outdated full reason vote refusedBy lacking decideTests final decideTurn learnTests learnTurn learnFlight least stored advanceTests deskOf putBack needs cleared does rise cuts act stepWhole stepOf masksSound entrySound flightSound notesSound placesSound setsSound slotSound spread empty votingSound committedSound transactionSound chainSound chainsSound pendingSound whole answers replies
 computed = (
-  (refl, (refl, (refl, (refl, (refl, (refl, (refl, (refl, (refl, (refl, tt)))))))))),
+  (refl, (refl, (refl, (refl, (refl, (refl, (refl, (refl, (refl, (refl, (nothing-there, (no-nodes [], (nine-nodes [], tt))))))))))))),
   (refl, (refl, (refl, (refl, (refl, (refl, (refl, (refl, (refl, (refl, ((refl, refl), ((refl, refl), tt)))))))))))),
 )

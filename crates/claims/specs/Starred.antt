@@ -7,7 +7,7 @@ use Rattle.group.specs.State.{State}
 use Rattle.group.specs.Answer.{says}
 use Rattle.group.specs.Fresh.{fresh}
 use Rattle.claims.specs.Runs.{st}
-use Rattle.claims.specs.Example.{Example, proposes, runs}
+use Rattle.claims.specs.Example.{Example, faults, proposes, runs}
 
 -- counters 5, 4, 0; one cell on nodes 0 and 1, another on nodes 1 and 2
 abbrev pub three : State
@@ -56,4 +56,7 @@ starred =
     ∷ proposes 0 4294967288 none
     ∷ proposes 0 4294967287 (some 4294967288)
     ∷ finals
+    ∷ faults [] 32
+    ∷ faults (0 ∷ []) 33
+    ∷ faults (9 ∷ []) 33
     ∷ []

@@ -2,14 +2,13 @@
 -- Assumes nothing.
 use mathlib.Core.Path.{_≡_, refl, sym, ap, _∙_}
 use mathlib.Core.Bool.{Bool, true, false, cond, not, _&&_, _||_}
-use mathlib.Core.List.{List, [], _∷_}
+use mathlib.Core.List.{List, []}
 use mathlib.Core.Option.{Option, none, some, Option·some-ne-none}
-use Prim.Native.Nat.{ℕ, _+_, _-_, _≤_, _<_}
+use Prim.Native.Nat.{ℕ, _-_, _≤_, _<_}
 use native.Mathlib.Omega.{arith}
 use lib.Dec.{leb, ltb}
 use borrow.Author.Tests.{ltb-true}
-use Rattle.tables.specs.Table.{at, put}
-use Rattle.tables.specs.Pair.{pair}
+use Rattle.tables.specs.Table.{at}
 use Rattle.tables.specs.Tests.{refusal}
 use Rattle.tables.proofs.Choice.{not-both, and-true}
 use Rattle.tables.proofs.Tests.{Passed, here, passed}
@@ -22,15 +21,13 @@ use Rattle.kinds.specs.declared.Fields.{Fields}
 use Rattle.kinds.proofs.Laws.{usesBy, uses-named, known-range}
 use Rattle.group.specs.declared.Slot.{Slot}
 use Rattle.group.specs.declared.Turn.{Turn}
-use Rattle.group.specs.declared.Stage.the-variants.{Aborted}
-use Rattle.group.specs.declared.Answer.the-variants.{Done, Cut}
-use Rattle.group.specs.declared.Answer.the-variants as Answer
+use Rattle.group.specs.declared.Answer.the-variants.{Cut}
 use Rattle.group.specs.State.{opened, stageNumber, askOf, noteOf, finalOf, writer}
-use Rattle.group.specs.Answer.{turn, refusedTurn, stepped, changed}
+use Rattle.group.specs.Answer.{refusedTurn, stepped, changed}
 use Rattle.read.specs.Read.{askTests, askTurn, serveTests, readAt, serveTurn, returnTests, returnTurn, returnReads}
-use Rattle.vote.specs.Vote.{commitTests, commitTurn, commitFlight, prepareTests, vote, voteRise, prepareTurn, prepareFlight, decideTests, decideTurn}
-use Rattle.settle.specs.Settle.{learnTests, learnTurn, learnFlight, least, applyTests, applyTurn, applyChains, applyFlight, advanceTests, advanceTurn}
-use Rattle.score.specs.Desk.{Desk, desk, Outcome, turned, withCounters}
+use Rattle.vote.specs.Vote.{commitTests, commitTurn, commitFlight, prepareTests, voteRise, prepareTurn, prepareFlight, decideTests, decideTurn}
+use Rattle.settle.specs.Settle.{learnTests, applyTests, advanceTests}
+use Rattle.score.specs.Desk.{Desk, desk, turned, withCounters}
 use Rattle.score.specs.Steps.{fieldTests, needs, voteOf, does, rise, cuts, judge, act}
 use Rattle.score.specs.Parts.{fieldRefusal, beginTests, writeTests, giveUpTests, abandonTests, outcome}
 use Rattle.settle.proofs.Laws.{step-refused, Learned, Applied, Advanced}
@@ -131,8 +128,8 @@ module _ (nodes cells : ℕ) (masks : List ℕ) (slot : Slot) (c : Counters) (fl
   -- what a kind's own function ensures is what is judged, cut or done
   settles :
       (o : Option ℕ) (cut : Bool) (k : ℕ) (t : Turn) (flight′ : List ℕ) (h′ : Chains) (writes′ reads′ : List ℕ)
-      → (outcome (stepped o cut slot c k t) nodes cells masks (changed o cut flight flight′) (changed o cut h h′) (changed o cut writes writes′) (changed o cut reads reads′)
-      ≡ judge o q (cond cut (record { answer = Cut; desk = withCounters q (countedTo c k) }) (turned (desk nodes cells masks slot c flight′ h′ writes′ reads′) t)))
+      → outcome (stepped o cut slot c k t) nodes cells masks (changed o cut flight flight′) (changed o cut h h′) (changed o cut writes writes′) (changed o cut reads reads′)
+      ≡ judge o q (cond cut (record { answer = Cut; desk = withCounters q (countedTo c k) }) (turned (desk nodes cells masks slot c flight′ h′ writes′ reads′) t))
   settles none true k t flight′ h′ writes′ reads′ = refl
   settles none false k t flight′ h′ writes′ reads′ = refl
   settles (some code) cut k t flight′ h′ writes′ reads′ = refl
@@ -142,17 +139,15 @@ module _ (nodes cells : ℕ) (masks : List ℕ) (slot : Slot) (c : Counters) (fl
         (code : ℕ) → fieldRefusal nodes cells x ≡ some code → (r : Turn) → r ≡ refusedTurn code slot c
         → outcome r nodes cells masks flight h writes reads ≡ act q x
     unfolding act
-    act-refused code e r p =
-        rw (p, fields-fail nodes cells x (needs q x (named (x .kind))) code e)
+    act-refused code e r p = rw (p, fields-fail nodes cells x (needs q x (named (x .kind))) code e)
 
     -- k is the kind of a step that is not refused for its fields
     module _ (fine : fieldRefusal nodes cells x ≡ none) (cut : Bool) (cutting : cut ≡ leb 128 (x .kind)) where
       act-is :
           (k : Kind) → named (x .kind) ≡ k
-          → (act q x ≡ judge (refusal (needs q x k)) q (cond cut (cuts q x k) (does q x k)))
+          → act q x ≡ judge (refusal (needs q x k)) q (cond cut (cuts q x k) (does q x k))
       unfolding act
-      act-is k e =
-          rw (e, fields-pass nodes cells x (needs q x k) fine, cutting)
+      act-is k e = rw (e, fields-pass nodes cells x (needs q x k) fine, cutting)
 
       -- what its function ensures: t is the whole turn, and the tables after that are the last four
       acts :

@@ -1,4 +1,5 @@
-// One function a kind. Each function here is handed a step whose fields are in range, chooses by the kind, and hands on what the kind needs.
+// The kinds, in three groups: each function is handed a step whose fields are in range, chooses by its kind, and hands on to the kind's own
+// function what that needs.
 use counters::Counters;
 use group::Slot;
 use group::Turn;

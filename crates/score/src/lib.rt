@@ -1,4 +1,6 @@
-// The step.
+// The step: what a state comes to by one step. The refusals come first, in the order of their codes: 15 for a state that is not whole, 16 to
+// 18 by the table of kinds, and the rest by the kind's own function. A step moves one slot and one node's counters at most: these two are
+// taken out of the group, handed on by value, and put back. The tables are changed where they lie.
 mod by_kind;
 mod plain;
 
@@ -25,6 +27,7 @@ ghost use Rattle.score.specs.Steps.{act as isAct, stepWhole, stepOf};
 ghost use Rattle.score.specs.Ready.{Ready};
 ghost use Rattle.score.specs.Parts.{codeOf, fieldRefusal, outcome, reached};
 
+// What a step answers, and the group after it.
 pub struct After {
     pub answer: Answer,
     pub group: Group,

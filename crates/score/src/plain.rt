@@ -118,10 +118,11 @@ pub(crate) fn write(cut: bool, slot: Slot, c: Counters, x: Step, writes: &mut [u
 {
     let st = slot.stage;
     let stage = group::stage_number(st);
+    let update = slot.update;
     if stage != 1 {
         return group::refused(19, slot, c);
     }
-    if !slot.update {
+    if !update {
         return group::refused(21, slot, c);
     }
     if cut {

@@ -1,10 +1,8 @@
 -- `score::act` meets its contract: refused for its fields, or by what its kind's function ensures.
 -- Assumes nothing.
-use mathlib.Core.Path.{_≡_, sym, _∙_}
+use mathlib.Core.Path.{_≡_, sym}
 use mathlib.Core.Option.{none}
-use native.Mathlib.Omega.{arith}
 use borrow.Author.Needs.{needs}
-use Rattle.kinds.specs.Kinds.{wholeOf}
 use Rattle.score.specs.Parts.{fieldRefusal}
 use Rattle.score.proofs.Acts.{act-refused}
 use Rattle.score.proofs.act.Statement.{statement}

@@ -1,6 +1,6 @@
 -- `score::place` meets its contract: by the kinds that move the counters of another node than their field's.
 -- Assumes nothing.
-use mathlib.Core.Path.{_≡_, sym, _∙_}
+use mathlib.Core.Path.{sym, _∙_}
 use borrow.Author.Needs.{needs}
 use Rattle.score.proofs.Laws.{place-of-ask, place-of-serve, place-of-return, place-of-others}
 use Rattle.score.proofs.place.Statement.{statement}

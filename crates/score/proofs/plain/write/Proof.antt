@@ -19,7 +19,7 @@ refused-requires-2 c κs = search needs
 
 returns-2 : tie.Need-returns-2
 returns-2 c =
-    let i = c .before .before .before in
+    let i = c .before .before in
     let x = i .before .before .args .x in
     write-no-update _ _ _ x _ _ _ (i .before .stage-number .ensures) (i .if1 .left) (c .before .if2 .taken) (c .refused2 .ensures)
 
@@ -28,7 +28,7 @@ cut-still-requires c κs = search needs
 
 returns-3 : tie.Need-returns-3
 returns-3 c =
-    let i = c .before .before .before .before in
+    let i = c .before .before .before in
     let x = i .before .before .args .x in
     write-cut _ _ _ x _ _ _ (i .before .stage-number .ensures) (i .if1 .left) (c .before .before .if2 .left) (c .before .if3 .taken) (c .cut-still .ensures)
 
@@ -47,7 +47,7 @@ done-requires c κs = search needs
 returns-4 : tie.Need-returns-4
 returns-4 c =
     let o = c .before .before .before .before in
-    let i = o .before .before .before in
+    let i = o .before .before in
     let x = i .before .before .args .x in
     write-whole _ _ _ x _ _ _ (i .before .stage-number .ensures) (i .if1 .left) (o .before .if2 .left) (o .if3 .left) (c .done .ensures) _
     (c .before .set-note .ensures)
