@@ -30,7 +30,9 @@ use Rattle.serial.proofs.Never as Never
 use Rattle.claims.specs.Example.{AllHold}
 use Rattle.claims.specs.Starred.{starred}
 use Rattle.claims.specs.Pinned.{pinned}
+use Rattle.claims.specs.Between.{begun, steps, summaryOf, summary, Explained}
 use Rattle.claims.proofs.Computed.{computed}
+use Rattle.claims.proofs.Between.{summed, explained}
 
 -- ---- demands 1 and 2
 
@@ -96,3 +98,8 @@ never-15 = Never.never-15
 pub inner-step : (nodes cells : ℕ) (counters masks values : List ℕ) → Group.Sound nodes cells counters masks values → (xs : List Step) → Steps32 xs → (x : Step)
     → stepOf (runOf (start nodes cells counters masks values) xs .state) x ≡ stepWhole (runOf (start nodes cells counters masks values) xs .state) x
 inner-step = Never.inner-step
+
+-- The statement is not empty: what it says, part by part, of a run in which a reader reads between two writers, and that the run comes to
+-- this.
+pub said-of-a-run : (summaryOf (runOf begun steps) ≡ summary) × Explained (runOf begun steps)
+said-of-a-run = (summed, explained)

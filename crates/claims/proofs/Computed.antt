@@ -18,13 +18,27 @@ use Rattle.score.specs.Desk.{deskOf, putBack}
 use Rattle.score.specs.Steps.{needs, cleared, does, rise, cuts, act, stepWhole, stepOf}
 use Rattle.runfile.proofs.Examples.{nothing-there, no-nodes, nine-nodes}
 use Rattle.claims.specs.Runs.{answers, replies}
-use Rattle.claims.specs.Example.{AllHold}
+use Rattle.claims.specs.Example.{AllHold, Holds}
 use Rattle.claims.specs.Starred.{starred}
-use Rattle.claims.specs.Pinned.{pinned}
+use Rattle.claims.specs.Pinned.{crammed, pinned}
+
+-- all that is computed with, opened under one name
+definitions : Unit {0}
+unfolding at put any every turns largest lastAt lesser leastAt each refusal upToTop next proposal usesOf named lenAt size versionAt newest latest hasRoom added unfinished writer involved freshLens freshVersions fresh askTests askTurn readAt blocks blocked noteFor serveTurn returnTurn returnReads commitTurn sentTo commitFlight prepareTests bars conflict outdated full reason vote refusedBy lacking decideTests final decideTurn learnTests learnTurn learnFlight least stored advanceTests deskOf putBack needs cleared does rise cuts act stepWhole stepOf masksSound entrySound flightSound notesSound placesSound setsSound slotSound spread empty votingSound committedSound transactionSound chainSound chainsSound pendingSound whole answers replies
+definitions = tt
+
+-- one by one, since what one declaration may compute is bounded
+starred-hold : AllHold starred
+unfolding definitions
+starred-hold = (refl, (refl, (refl, (refl, (refl, (refl, (refl, (refl, (refl, (refl, (nothing-there, (no-nodes [], (nine-nodes [], tt)))))))))))))
+
+full-chain : Holds crammed
+unfolding definitions
+full-chain = refl
+
+pinned-hold : AllHold pinned
+unfolding definitions
+pinned-hold = (refl, (refl, (refl, (refl, (refl, (refl, (full-chain, (refl, (refl, (refl, (refl, (refl, ((refl, refl), ((refl, refl), tt))))))))))))))
 
 pub computed : AllHold starred × AllHold pinned
-unfolding at put any every turns largest lastAt lesser leastAt each refusal upToTop next proposal usesOf named lenAt size versionAt newest latest hasRoom added unfinished writer involved freshLens freshVersions fresh askTests askTurn readAt blocks blocked noteFor serveTurn returnTurn returnReads commitTurn sentTo commitFlight prepareTests bars conflict outdated full reason vote refusedBy lacking decideTests final decideTurn learnTests learnTurn learnFlight least stored advanceTests deskOf putBack needs cleared does rise cuts act stepWhole stepOf masksSound entrySound flightSound notesSound placesSound setsSound slotSound spread empty votingSound committedSound transactionSound chainSound chainsSound pendingSound whole answers replies
-computed = (
-  (refl, (refl, (refl, (refl, (refl, (refl, (refl, (refl, (refl, (refl, (nothing-there, (no-nodes [], (nine-nodes [], tt))))))))))))),
-  (refl, (refl, (refl, (refl, (refl, (refl, (refl, (refl, (refl, (refl, ((refl, refl), ((refl, refl), tt)))))))))))),
-)
+computed = (starred-hold, pinned-hold)

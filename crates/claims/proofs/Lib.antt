@@ -1,2 +1,4 @@
 mod Computed
+mod Between
+pub mod Rules
 pub mod Claims

@@ -2,3 +2,4 @@ pub mod Runs
 pub mod Example
 pub mod Starred
 pub mod Pinned
+pub mod Between

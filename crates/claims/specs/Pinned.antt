@@ -9,7 +9,7 @@ use Rattle.group.specs.declared.Slot.{Slot}
 use Rattle.group.specs.declared.Snapshot.the-variants.{Fixed}
 use Rattle.group.specs.declared.Stage.the-variants.{Served}
 use Rattle.group.specs.State.{State}
-use Rattle.group.specs.Answer.{says}
+use Rattle.group.specs.Answer.{Said, says}
 use Rattle.group.specs.Fresh.{fresh}
 use Rattle.claims.specs.Runs.{st}
 use Rattle.claims.specs.Example.{Example, runs, inner, leaves}
@@ -80,6 +80,27 @@ votes =
     (st 1 0 0 0 1 ∷ st 2 0 0 0 7 ∷ st 6 0 0 0 0 ∷ st 8 0 0 0 0 ∷ st 136 0 0 0 0 ∷ st 7 0 0 0 0 ∷ st 1 1 0 0 1 ∷ st 2 1 0 0 8 ∷ st 6 1 0 0 0 ∷ st 7 1 0 0 0 ∷ st 8 1 0 0 0 ∷ [])
     (says 0 0 0 ∷ says 0 0 0 ∷ says 0 0 0 ∷ says 24 0 0 ∷ says 24 0 0 ∷ says 3 8 0 ∷ says 0 0 0 ∷ says 0 0 0 ∷ says 0 0 0 ∷ says 4 1 0 ∷ says 6 0 0 ∷ [])
 
+-- reason 2: T0 read cell 0 at 0, and T1 wrote it and is applied at node 1; at node 0, where it is not, it is a conflict (reason 1)
+abbrev pub overtaken : Example
+overtaken =
+    inner (two zero)
+    (st 1 0 1 0 1 ∷ st 3 0 1 0 0 ∷ st 4 0 0 0 0 ∷ st 5 0 0 0 0 ∷ st 1 1 1 0 1 ∷ st 2 1 0 0 11 ∷ st 6 1 0 0 0 ∷ st 7 1 0 0 0 ∷ st 7 1 1 0 0 ∷ st 8 1 0 0 0 ∷ st 10 1 1 0 0 ∷ st 11 0 1 0 0 ∷ st 2 0 0 1 21 ∷ st 6 0 0 0 0 ∷ st 7 0 0 0 0 ∷ st 7 0 1 0 0 ∷ [])
+    (says 0 0 0 ∷ says 0 0 0 ∷ says 0 0 0 ∷ says 1 0 10 ∷ says 0 0 0 ∷ says 0 0 0 ∷ says 0 0 0 ∷ says 3 8 0 ∷ says 3 1 0 ∷ says 5 8 0 ∷ says 0 8 0 ∷ says 0 8 0 ∷ says 0 0 0 ∷ says 0 0 0 ∷ says 4 1 0 ∷ says 4 2 0 ∷ [])
+
+-- transaction t writes cell 1, which node 1 alone holds, and is applied there; what its steps answer where its number is k
+abbrev another : ℕ → List Step → List Step
+another t xs = st 1 t 1 0 1 ∷ st 2 t 0 1 7 ∷ st 6 t 0 0 0 ∷ st 7 t 1 0 0 ∷ st 8 t 0 0 0 ∷ st 10 t 1 0 0 ∷ st 11 0 1 0 0 ∷ xs
+
+abbrev numbered : ℕ → List Said → List Said
+numbered k rs = says 0 0 0 ∷ says 0 0 0 ∷ says 0 0 0 ∷ says 3 k 0 ∷ says 5 k 0 ∷ says 0 k 0 ∷ says 0 k 0 ∷ rs
+
+-- reason 3: seven writes fill the chain, and there is no room for the next
+abbrev pub crammed : Example
+crammed =
+    inner (two zero)
+    (another 0 (another 1 (another 2 (another 3 (another 4 (another 5 (another 6 (st 1 7 1 0 1 ∷ st 2 7 0 1 8 ∷ st 6 7 0 0 0 ∷ st 7 7 1 0 0 ∷ []))))))))
+    (numbered 1 (numbered 9 (numbered 17 (numbered 25 (numbered 33 (numbered 41 (numbered 49 (says 0 0 0 ∷ says 0 0 0 ∷ says 0 0 0 ∷ says 4 3 0 ∷ []))))))))
+
 -- the last number is given, then there is none (reason 4)
 abbrev pub exhausted : Example
 exhausted =
@@ -144,4 +165,4 @@ abbrev pub stale-cut : Example
 stale-cut = leaves spoiled (st 133 0 0 0 0) (says 7 0 0) 0 (record { counter = 8; commit = 0; seen = 0 })
 
 abbrev pub pinned : List Example
-pinned = listing ∷ unwhole ∷ fields ∷ stages ∷ votes ∷ exhausted ∷ carried ∷ saved ∷ unfixed ∷ above ∷ stale-whole ∷ stale-cut ∷ []
+pinned = listing ∷ unwhole ∷ fields ∷ stages ∷ votes ∷ overtaken ∷ crammed ∷ exhausted ∷ carried ∷ saved ∷ unfixed ∷ above ∷ stale-whole ∷ stale-cut ∷ []

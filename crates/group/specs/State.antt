@@ -27,6 +27,10 @@ pub record State : Type 0 where
   pub writes : List ℕ
   pub reads : List ℕ
 
+-- a state from its parts
+abbrev pub stateOf : Group → List ℕ → Chains → List ℕ → List ℕ → State
+stateOf g flight chains writes reads = record { group = g; flight = flight; chains = chains; writes = writes; reads = reads }
+
 -- ---- holders
 
 -- does node n hold cell c

@@ -1,13 +1,18 @@
 // The state of a group: its small typed part, which goes by value, and five long tables, which the caller lends and which are changed
 // where they lie. The functions here are for callers that know their places to be in range: whoever takes a state or a step from outside has tested that.
+mod fill;
+
+pub use crate::fill::Fresh;
 use counters::Counters;
 ghost use mathlib.Core.Path.{_≡_};
 ghost use Prim.Native.Nat.{_/_, _%_, _^_, _≤_, _<_};
 ghost use lib.Dec.{eqb};
 ghost use Rattle.tables.specs.Table.{at, put};
 ghost use Rattle.tables.specs.Pair.{pair};
-ghost use Rattle.group.specs.State.{holds as isHolder, tagAt, numberAt, entered, unfinished as isUnfinished, noted as notedAt, has as hasNote, writer as isWriter, involved as isInvolved, touched, stageNumber, noAsk, askOf, noNote, noteOf, finalOf, snapshotOf, isFixed, atStage};
+ghost use Rattle.chain.specs.Chain.{chains};
+ghost use Rattle.group.specs.State.{holds as isHolder, tagAt, numberAt, entered, unfinished as isUnfinished, noted as notedAt, has as hasNote, writer as isWriter, involved as isInvolved, touched, stageNumber, noAsk, askOf, noNote, noteOf, finalOf, snapshotOf, isFixed, atStage, stateOf};
 ghost use Rattle.group.specs.Answer.{refusedTurn};
+ghost use Rattle.group.specs.Fresh.{fresh as isFresh};
 
 // A transaction's snapshot is fixed by its first read.
 pub enum Snapshot {
@@ -323,4 +328,38 @@ pub fn involved(
         c = c + 1;
     }
     false
+}
+
+// ---- a fresh run
+
+// The state before the first step, from what the file brings: any counts, any bytes, and any tables, which are filled anew.
+pub fn fresh(
+    nodes: u8,
+    cells: u8,
+    counters: &[u32; 8],
+    masks: &[u8; 32],
+    values: &[u32; 32],
+    lens: &mut [u8; 256],
+    versions: &mut [u64; 2048],
+    writes: &mut [u64; 1024],
+    reads: &mut [u64; 1024],
+) -> Fresh
+    ensures { λ r. ⌜ stateOf (r .group) (r .flight) (chains (now (lens .exit)) (now (versions .exit))) (now (writes .exit)) (now (reads .exit)) ≡ isFresh nodes cells (now (counters .entry)) (now (masks .entry)) (now (values .entry)) ⌝ }
+{
+    fill::lens(masks, lens);
+    fill::versions(values, versions);
+    *writes = [0; 1024];
+    *reads = [0; 1024];
+    let counters = fill::counters(counters);
+    let masks = *masks;
+    let slots = fill::slots();
+    let group = Group {
+        nodes,
+        cells,
+        counters,
+        masks,
+        slots,
+    };
+    let flight = [0; 256];
+    Fresh { group, flight }
 }

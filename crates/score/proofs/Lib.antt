@@ -1,3 +1,4 @@
 pub mod Laws
 pub mod Acts
 pub mod WholeLaws
+pub mod Codes

@@ -1,22 +1,25 @@
 -- Laws of the step of a whole state: what its desk has, and that what lies on the desk is put back.
 -- Assumes nothing.
 use mathlib.Core.Path.{_≡_, refl, sym, ap, _∙_}
-use mathlib.Core.Bool.{Bool, true, false, _&&_, _||_}
+use mathlib.Core.Bool.{Bool, true, false, cond, not, _&&_, _||_}
 use mathlib.Core.List.{List}
+use mathlib.Core.Option.{Option, none, some}
 use Prim.Native.Nat.{ℕ, _≤_, _<_}
 use native.Mathlib.Omega.{arith}
 use lib.Dec.{ltb, eqb}
-use borrow.Author.Tests.{ltb-true, ltb-false, leb-true, eqb-true, eq-eqb, ne-eqb}
+use borrow.Author.Tests.{le-ltb, ltb-true, ltb-false, leb-true, eqb-true, eq-eqb, ne-eqb}
 use Rattle.tables.specs.Table.{at, put}
 use Rattle.tables.specs.Pair.{pair, word}
 use Rattle.tables.specs.Loop.{every}
+use Rattle.tables.specs.Tests.{refusal}
+use Rattle.tables.proofs.Table.{put-at}
 use Rattle.tables.proofs.Choice.{not-both, by-test, and-true}
 use Rattle.tables.proofs.Pair.{pair-fits}
 use Rattle.tables.proofs.Loop.{every-at}
 use Rattle.counters.specs.Counters.{zeroed}
 use Rattle.counters.specs.declared.Counters.{Counters}
 use Rattle.chain.specs.Chain.{Chains}
-use Rattle.kinds.specs.Kinds.{named}
+use Rattle.kinds.specs.Kinds.{named, isKnown, usesOf}
 use Rattle.kinds.specs.declared.Step.{Step}
 use Rattle.group.specs.declared.Stage.{Stage}
 use Rattle.group.specs.declared.Stage.the-variants.{Unused, Open, Asking, Served, Voting, Committed, Aborted}
@@ -24,14 +27,19 @@ use Rattle.group.specs.declared.Slot.{Slot}
 use Rattle.group.specs.declared.Group.{Group}
 use Rattle.group.specs.declared.Turn.{Turn}
 use Rattle.group.specs.declared.Answer.the-variants.{Refused}
-use Rattle.group.specs.State.{State, holds, noted, unused, opened, asking, served, stageNumber, askOf, noteOf, inStage, noSlot}
+use Rattle.group.specs.State.{State, stateOf, holds, noted, unused, opened, asking, served, stageNumber, askOf, noteOf, inStage, noSlot, slotAt, countersAt}
 use Rattle.whole.specs.Whole.{implies, countsSound, noteSound, notesSound, askedSound, placesSound, setsSound, slotSound, transactionSound, whole}
 use Rattle.whole.proofs.Laws.{counts-in}
 use Rattle.score.specs.declared.After.{After}
-use Rattle.score.specs.Desk.{nodeOf, deskOf, putBack, desk, stateOf}
+use Rattle.score.specs.Desk.{nodeOf, placeOf, deskOf, putBack, desk, Outcome}
 use Rattle.score.specs.Steps.{act, Stepped, stepWhole, stepOf}
 use Rattle.score.specs.Ready.{Ready}
-use Rattle.score.specs.Parts.{outcome, reached}
+use Rattle.score.specs.Parts.{fieldRefusal, outcome, reached}
+use Rattle.score.proofs.Acts.{act-refused}
+
+-- there is a code
+data Some (o : Option ℕ) : Type 0 where
+  some-is : (code : ℕ) → o ≡ some code → Some o
 
 -- ---- what a whole state says
 
@@ -186,6 +194,76 @@ module _ (g : Group) (flight : List ℕ) (h : Chains) (writes reads : List ℕ) 
   put-back slot a n b c d t flight′ h′ writes′ reads′ e slots o counters p =
       let f = rw (d, b, a) at e in
       rw (← f, o, p, b, a)
+
+-- ---- a step that names no slot
+
+-- the first three tests, of which the last fails
+some-fails : (a b : Bool) → Some (cond a (cond b (cond false none (some 18)) (some 17)) (some 16))
+some-fails true true = some-is 18 refl
+some-fails true false = some-is 17 refl
+some-fails false b = some-is 16 refl
+
+-- a step that uses a slot past the last is refused for its fields
+no-such-slot : (nodes cells : ℕ) (x : Step) → usesOf (x .kind) .slot ≡ true → 32 ≤ x .slot → Some (fieldRefusal nodes cells x)
+unfolding fieldRefusal refusal
+no-such-slot nodes cells x u h = rw (u, le-ltb (x .slot) 32 h) (some-fails (isKnown (x .kind)) (not (usesOf (x .kind) .node) || ltb (x .node) nodes))
+
+module _ (g : Group) (flight : List ℕ) (h : Chains) (writes reads : List ℕ) (x : Step) where
+  abbrev s : State
+  s = stateOf g flight h writes reads
+
+  -- refused whatever lies on its desk, a step leaves the state
+  stays : (code : ℕ) → fieldRefusal (g .nodes) (g .cells) x ≡ some code → record { answer = Refused code; state = s } ≡ stepWhole s x
+  unfolding stepWhole deskOf putBack
+  stays code e =
+      let c = countersAt s (placeOf s x) in
+      let q = act-refused (g .nodes) (g .cells) (g .masks) (slotAt s (x .slot)) c flight h writes reads x code e _ refl in
+      rw (← q, put-at (g .slots) (x .slot) noSlot, put-at (g .counters) (placeOf s x) (zeroed 0))
+
+  -- so a step may be shown the slot of another place where its own is past the last
+  module _ (used : usesOf (x .kind) .slot ≡ false → x .slot < 32) (i : ℕ) (place : i ≡ cond (ltb (x .slot) 32) (x .slot) 0) where
+    pub put-back-at :
+        (slot : Slot) → slot ≡ at (g .slots) i noSlot
+        → (n : ℕ) → n ≡ nodeOf (named (x .kind)) slot (x .node)
+        → (c : Counters) → c ≡ at (g .counters) n (zeroed 0)
+        → (t : Turn) (flight′ : List ℕ) (h′ : Chains) (writes′ reads′ : List ℕ)
+        → outcome t (g .nodes) (g .cells) (g .masks) flight′ h′ writes′ reads′ ≡ act (desk (g .nodes) (g .cells) (g .masks) slot c flight h writes reads) x
+        → (slots : List Slot) → slots ≡ put (g .slots) i (t .slot)
+        → (counters : List Counters) → counters ≡ put (g .counters) n (t .counters)
+        → record {
+          answer = t .answer;
+          state = stateOf (record { nodes = g .nodes; cells = g .cells; counters = counters; masks = g .masks; slots = slots }) flight′ h′ writes′ reads′;
+        }
+        ≡ stepWhole s x
+    put-back-at slot a n b c d t flight′ h′ writes′ reads′ e slots o counters p =
+        by-test (ltb (x .slot) 32) (λ l. let j = place ∙ ap (λ (m : Bool). cond m (x .slot) 0) l in inside j) (λ l. outside (ltb-false (x .slot) 32 l) (no-such-slot (g .nodes) (g .cells) x (is-used (usesOf (x .kind) .slot) refl l) (ltb-false (x .slot) 32 l)))
+      where
+        is-used : (u : Bool) → usesOf (x .kind) .slot ≡ u → ltb (x .slot) 32 ≡ false → u ≡ true
+        is-used true q l = refl
+        is-used false q l = absurd (omega (arith, used q, ltb-false (x .slot) 32 l))
+
+        after : Stepped
+        after = record {
+          answer = t .answer;
+          state = stateOf (record { nodes = g .nodes; cells = g .cells; counters = counters; masks = g .masks; slots = slots }) flight′ h′ writes′ reads′;
+        }
+
+        inside : i ≡ x .slot → after ≡ stepWhole s x
+        inside j = put-back g flight h writes reads x slot (rw j at a) n b c d t flight′ h′ writes′ reads′ e slots (rw j at o) counters p
+
+        outside : 32 ≤ x .slot → Some (fieldRefusal (g .nodes) (g .cells) x) → after ≡ stepWhole s x
+        outside l (some-is code q) =
+            let r = e ∙ sym (act-refused (g .nodes) (g .cells) (g .masks) slot c flight h writes reads x code q _ refl) in
+            let ts : t .slot ≡ slot = ap (λ (y : Outcome). y .desk .slot) r in
+            let tc : t .counters ≡ c = ap (λ (y : Outcome). y .desk .counters) r in
+            let ta : t .answer ≡ Refused code = ap (λ (y : Outcome). y .answer) r in
+            let f : flight′ ≡ flight = ap (λ (y : Outcome). y .desk .flight) r in
+            let k : h′ ≡ h = ap (λ (y : Outcome). y .desk .chains) r in
+            let w : writes′ ≡ writes = ap (λ (y : Outcome). y .desk .writes) r in
+            let z : reads′ ≡ reads = ap (λ (y : Outcome). y .desk .reads) r in
+            let os : slots ≡ g .slots = o ∙ ap (put (g .slots) i) (ts ∙ a) ∙ put-at (g .slots) i noSlot in
+            let oc : counters ≡ g .counters = p ∙ ap (put (g .counters) n) (tc ∙ d) ∙ put-at (g .counters) n (zeroed 0) in
+            rw (ta, f, k, w, z, os, oc) (stays code q)
 
 -- ---- the step of any state
 

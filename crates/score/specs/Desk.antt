@@ -8,7 +8,6 @@ use Rattle.counters.specs.declared.Counters.{Counters}
 use Rattle.chain.specs.Chain.{Chains}
 use Rattle.kinds.specs.declared.Step.{Step}
 use Rattle.kinds.specs.Kinds.{Kind, begin, write, ask, serve, return, commit, prepare, decide, giveUp, learn, apply, advance, abandon, named}
-use Rattle.group.specs.declared.Group.{Group}
 use Rattle.group.specs.declared.Slot.{Slot}
 use Rattle.group.specs.declared.Answer.{Answer}
 use Rattle.group.specs.declared.Turn.{Turn}
@@ -75,13 +74,10 @@ putBack s x q =
       reads = q .reads;
     }
 
--- a desk and a state from their parts
+-- a desk from its parts
 abbrev pub desk : ℕ → ℕ → List ℕ → Slot → Counters → List ℕ → Chains → List ℕ → List ℕ → Desk
 desk nodes cells masks slot counters flight chains writes reads =
     record { nodes = nodes; cells = cells; masks = masks; slot = slot; counters = counters; flight = flight; chains = chains; writes = writes; reads = reads }
-
-abbrev pub stateOf : Group → List ℕ → Chains → List ℕ → List ℕ → State
-stateOf g flight chains writes reads = record { group = g; flight = flight; chains = chains; writes = writes; reads = reads }
 
 -- an answer, and the desk after it
 pub record Outcome : Type 0 where

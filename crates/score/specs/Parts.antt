@@ -10,11 +10,11 @@ use Rattle.chain.specs.Chain.{Chains}
 use Rattle.kinds.specs.declared.Step.{Step}
 use Rattle.group.specs.declared.Slot.{Slot}
 use Rattle.group.specs.declared.Turn.{Turn}
-use Rattle.group.specs.State.{unused, opened, served, voting, stageNumber, inStage}
+use Rattle.group.specs.State.{stateOf, unused, opened, served, voting, stageNumber, inStage}
 use Rattle.score.specs.declared.Fault.{Fault}
 use Rattle.score.specs.declared.Fault.the-variants.{Code, Nothing}
 use Rattle.score.specs.declared.After.{After}
-use Rattle.score.specs.Desk.{Outcome, desk, stateOf}
+use Rattle.score.specs.Desk.{Outcome, desk}
 use Rattle.score.specs.Steps.{fieldTests, Stepped}
 
 -- the code that an answer stands for

@@ -20,9 +20,9 @@ ghost use Rattle.tables.specs.Table.{at, put};
 ghost use Rattle.counters.specs.Counters.{zeroed};
 ghost use Rattle.chain.specs.Chain.{chains};
 ghost use Rattle.kinds.specs.Kinds.{named};
-ghost use Rattle.group.specs.State.{noSlot};
+ghost use Rattle.group.specs.State.{stateOf, noSlot};
 ghost use Rattle.whole.specs.Whole.{whole};
-ghost use Rattle.score.specs.Desk.{nodeOf, desk, stateOf};
+ghost use Rattle.score.specs.Desk.{nodeOf, desk};
 ghost use Rattle.score.specs.Steps.{act as isAct, stepWhole, stepOf};
 ghost use Rattle.score.specs.Ready.{Ready};
 ghost use Rattle.score.specs.Parts.{codeOf, fieldRefusal, outcome, reached};
@@ -68,7 +68,7 @@ fn field_fault(nodes: u8, cells: u8, x: Step) -> Fault
 }
 
 // The node whose counters the step may move.
-fn place(x: Step, slot: Slot) -> u8
+pub fn place(x: Step, slot: Slot) -> u8
     ensures { λ r. ⌜ r ≡ nodeOf (named (x .kind)) slot (x .node) ⌝ }
 {
     let st = slot.stage;
@@ -187,7 +187,7 @@ fn put_slot(slots: [Slot; 32], t: u8, slot: Slot) -> [Slot; 32]
     slots
 }
 
-fn counters_at(counters: [Counters; 8], n: u8) -> Counters
+pub fn counters_at(counters: [Counters; 8], n: u8) -> Counters
     ensures { λ r. ⌜ r ≡ at counters n (zeroed 0) ⌝ }
 {
     if 8 <= n {
@@ -200,7 +200,7 @@ fn counters_at(counters: [Counters; 8], n: u8) -> Counters
     counters[n as usize]
 }
 
-fn put_counters(counters: [Counters; 8], n: u8, c: Counters) -> [Counters; 8]
+pub fn put_counters(counters: [Counters; 8], n: u8, c: Counters) -> [Counters; 8]
     ensures { λ r. ⌜ r ≡ put counters n c ⌝ }
 {
     if 8 <= n {

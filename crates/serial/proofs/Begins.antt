@@ -2,8 +2,8 @@
 -- Assumes nothing.
 use mathlib.Core.Path.{_≡_, ap, _∙_}
 use mathlib.Core.Bool.{true, false, cond}
-use mathlib.Core.List.{List, [], List·Memᴰ, List·Memᴰ·not-nil}
-use Prim.Native.Nat.{ℕ, zero, suc, _-_, _/_, _%_, _^_, _≤_, _<_}
+use mathlib.Core.List.{List, [], List·Memᴰ·not-nil}
+use Prim.Native.Nat.{ℕ, zero, suc, _/_, _%_, _^_, _≤_, _<_}
 use native.Mathlib.Nat.{div-eq-of-lt, div-eq-of-lt-le, mod-eq-of-lt}
 use native.Mathlib.Omega.{arith}
 use lib.Dec.{ltb, eqb}
@@ -94,15 +94,15 @@ module _ (nodes cells : ℕ) (counters masks values : List ℕ) (q : Sound nodes
   sizes₀ : Sizes s
   unfolding fresh freshLens freshVersions
   sizes₀ = record {
-    counters8 = length-map counters zeroed ∙ q .counters8;
+    counters8 = length-map counters zeroed ∙ q .lengths .0;
     slots32 = length-replicate 32 noSlot;
     flight256 = length-replicate {A = ℕ} 256 0;
     lens256 = each-size 0 _ _ (replicate 256 0) 256 ∙ length-replicate {A = ℕ} 256 0;
     versions2048 = each-size 0 _ _ (replicate 2048 0) 256 ∙ length-replicate {A = ℕ} 2048 0;
     writes1024 = length-replicate {A = ℕ} 1024 0;
     reads1024 = length-replicate {A = ℕ} 1024 0;
-    nodes-high = q .nodes-high;
-    cells-high = q .cells-high;
+    nodes-high = q .nodes-in .1;
+    cells-high = q .cells-in .1;
     in-run = in-run;
     held = λ c h. let r = q .masks-in c h in names-one nodes (at masks c 0) (r .0) (r .1);
   }
@@ -166,8 +166,8 @@ module _ (nodes cells : ℕ) (counters masks values : List ℕ) (q : Sound nodes
   pub fresh-shape : Shape s
   unfolding fresh
   fresh-shape = record {
-    nodes-low = q .nodes-low;
-    cells-low = q .cells-low;
+    nodes-low = q .nodes-in .0;
+    cells-low = q .cells-in .0;
     masks = q .masks-in;
     slots = λ t ht. record {
       early = λ n hn l. num₀ t n ht hn;

@@ -1,6 +1,6 @@
 -- The changes of a state, each by what it does to the views.
 -- Assumes nothing.
-use mathlib.Core.Path.{_≡_, refl, ap, _∙_}
+use mathlib.Core.Path.{_≡_, ap, _∙_}
 use mathlib.Core.Logic.{_≢_, _⊎_, inl}
 use mathlib.Core.Bool.{true}
 use mathlib.Core.List.{List, List·Memᴰ}
@@ -10,8 +10,8 @@ use native.Mathlib.Decide.{ℕ-discrete}
 use lib.Dec.{ltb}
 use lib.ListN.{length}
 use borrow.Author.Tests.{ltb-true, ltb-false}
-use Rattle.tables.specs.Table.{at, put}
-use Rattle.tables.specs.Pair.{pair, word}
+use Rattle.tables.specs.Table.{at}
+use Rattle.tables.specs.Pair.{word}
 use Rattle.tables.proofs.Choice.{by-test}
 use Rattle.tables.proofs.Table.{put-size, put-same, put-other, at-past}
 use Rattle.counters.specs.Counters.{zeroed, risenTo, countedTo}
@@ -19,13 +19,13 @@ use Rattle.counters.specs.declared.Counters.{Counters}
 use Rattle.group.specs.declared.Slot.{Slot}
 use Rattle.group.specs.declared.Ask.{Ask}
 use Rattle.group.specs.declared.Note.{Note}
-use Rattle.tables.proofs.Pair.{pair-inj}
-use Rattle.group.specs.State.{State, entered, stageNumber, askOf, noteOf, finalOf, noSlot, slotAt, countersAt}
+use Rattle.group.specs.State.{State, stageNumber, askOf, noteOf, finalOf, noSlot, slotAt, countersAt}
 use Rattle.serial.specs.Serial.{Handed}
-use Rattle.serial.proofs.Inv.{Nodes, Slots, Ground, Writes, Transaction, Reading, Given, Took}
+use Rattle.serial.proofs.Inv.{Given, Ground, Nodes, Reading, Slots, Took, Transaction, Writes}
 use Rattle.serial.proofs.Quiet.{Alike, QuietAt, quiet}
 use Rattle.serial.proofs.Counts.{Rises, rises}
-use Rattle.serial.proofs.Views.{fixedAt, groundOf, nodesOf, slotsOf, linksOf, asksOf, notesOf, Sizes, All, setCounters, setSlot, setTables}
+use Rattle.serial.proofs.Views.{All, Sizes, asksOf, fixedAt, groundOf, linksOf, nodesOf, notesOf, setCounters, setSlot, setTables, slotsOf}
+use Rattle.serial.proofs.Rows.{Rows}
 
 -- ---- counters of one node
 
@@ -78,57 +78,6 @@ module _ (first : ℕ → ℕ) (s : State) (H : List Handed) (n : ℕ) (c : Coun
   raised a q = record { sizes = sized (a .sizes); inv = rises _ _ _ (rising a q) _ _ _ _ _ (a .inv) }
 
 -- ---- one transaction: its slot, and its rows of the tables
-
--- the tables after: as long as they were, and the rows of others as they were
-pub record Rows (s : State) (t : ℕ) (f w r : List ℕ) : Type 0 where
-  pub flight256 : length f ≡ 256
-  pub writes1024 : length w ≡ 1024
-  pub reads1024 : length r ≡ 1024
-  pub flight : (u n : ℕ) → u < 32 → n < 8 → u ≢ t → at f (pair 8 u n) 0 ≡ at (s .flight) (pair 8 u n) 0
-  pub writes : (u c : ℕ) → u < 32 → c < 32 → u ≢ t → at w (pair 32 u c) 0 ≡ at (s .writes) (pair 32 u c) 0
-  pub reads : (u c : ℕ) → u < 32 → c < 32 → u ≢ t → at r (pair 32 u c) 0 ≡ at (s .reads) (pair 32 u c) 0
-
-pub no-rows : (s : State) (t : ℕ) → Sizes s → Rows s t (s .flight) (s .writes) (s .reads)
-no-rows s t z = record {
-  flight256 = z .flight256;
-  writes1024 = z .writes1024;
-  reads1024 = z .reads1024;
-  flight = λ u n hu hn d. refl;
-  writes = λ u c hu hc d. refl;
-  reads = λ u c hu hc d. refl;
-}
-
--- one write, and one read, of its own
-pub written-rows : (s : State) (t c v : ℕ) → Sizes s → c < 32 → Rows s t (s .flight) (put (s .writes) (pair 32 t c) v) (s .reads)
-written-rows s t c v z hc = record {
-  flight256 = z .flight256;
-  writes1024 = put-size _ _ _ ∙ z .writes1024;
-  reads1024 = z .reads1024;
-  flight = λ u n hu hn d. refl;
-  writes = λ u i hu hi d. put-other (s .writes) _ _ (pair 32 u i) 0 (λ y. d (pair-inj 32 u i t c hi hc y .0));
-  reads = λ u i hu hi d. refl;
-}
-
-pub read-rows : (s : State) (t c v : ℕ) → Sizes s → c < 32 → Rows s t (s .flight) (s .writes) (put (s .reads) (pair 32 t c) v)
-read-rows s t c v z hc = record {
-  flight256 = z .flight256;
-  writes1024 = z .writes1024;
-  reads1024 = put-size _ _ _ ∙ z .reads1024;
-  flight = λ u n hu hn d. refl;
-  writes = λ u i hu hi d. refl;
-  reads = λ u i hu hi d. put-other (s .reads) _ _ (pair 32 u i) 0 (λ y. d (pair-inj 32 u i t c hi hc y .0));
-}
-
--- one entry of its own
-pub entered-rows : (s : State) (t n g k : ℕ) → Sizes s → n < 8 → Rows s t (entered (s .flight) t n g k) (s .writes) (s .reads)
-entered-rows s t n g k z hn = record {
-  flight256 = put-size _ _ _ ∙ z .flight256;
-  writes1024 = z .writes1024;
-  reads1024 = z .reads1024;
-  flight = λ u m hu hm d. put-other (s .flight) _ _ (pair 8 u m) 0 (λ y. d (pair-inj 8 u m t n hm hn y .0));
-  writes = λ u c hu hc d. refl;
-  reads = λ u c hu hc d. refl;
-}
 
 module _ (s : State) (t : ℕ) (x : Slot) (f w r : List ℕ) where
   abbrev pub moved : State

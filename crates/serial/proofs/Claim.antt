@@ -4,7 +4,7 @@ use mathlib.Core.Path.{_≡_, refl, ap, _∙_}
 use mathlib.Core.Logic.{_≢_}
 use mathlib.Core.Bool.{Bool, true, false, _&&_}
 use mathlib.Core.List.{List, List·Memᴰ}
-use Prim.Native.Nat.{ℕ, zero, _-_, _≤_, _<_}
+use Prim.Native.Nat.{ℕ, _-_, _≤_, _<_}
 use native.Mathlib.Omega.{arith}
 use native.Mathlib.Decide.{ℕ-discrete}
 use lib.Dec.{leb, ltb, eqb}
@@ -16,8 +16,7 @@ use Rattle.chain.proofs.Laws.{size-in}
 use Rattle.group.specs.State.{State, holds, unfinished, has, writer, committed}
 use Rattle.serial.specs.Serial.{Handed, isWriter, numberOf, writers, copyAfter, Serial}
 use Rattle.serial.proofs.Inv.{Slots, Links, Transaction, From, from, Into, into, Latest, untouched, last, Given, Took}
-use Rattle.serial.proofs.Views.{groundOf, nodesOf, slotsOf, linksOf, All}
-use Rattle.serial.proofs.Reading.{pends}
+use Rattle.serial.proofs.Views.{groundOf, nodesOf, slotsOf, linksOf, All, pends}
 use Rattle.serial.proofs.Copy.{Last, nobody, wrote, last-unique, Picked, copy-holds}
 
 module _ (first : ℕ → ℕ) (s : State) (H : List Handed) (a : All first s H) where

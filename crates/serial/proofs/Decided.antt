@@ -10,7 +10,7 @@ use native.Mathlib.Decide.{ℕ-discrete}
 use Rattle.group.specs.declared.Ask.{Ask}
 use Rattle.group.specs.declared.Note.{Note}
 use Rattle.serial.specs.Serial.{Handed}
-use Rattle.serial.proofs.Inv.{Nodes, Slots, Links, Ground, Numbering, writes, Transaction, Locking, From, from, Chaining, Latest, untouched, last, Given, Took, Reading, Inv}
+use Rattle.serial.proofs.Inv.{Nodes, Slots, Links, Ground, Numbering, Transaction, Locking, From, from, Chaining, Latest, untouched, last, Given, Took, Reading, Inv}
 use Rattle.serial.proofs.Quiet.{alike-transaction}
 
 -- the views with other stages and final numbers

@@ -1,29 +1,24 @@
--- Rules A and B keep what holds. A version that is noted is what the copy holds at its s.
+-- Rules A and B keep what holds: what is noted is what the copy holds at its s, and so is what is handed.
 -- Assumes nothing.
 use mathlib.Core.Path.{_≡_, refl, sym, ap, subst, subst₂, _∙_}
-use mathlib.Core.Logic.{_≢_, _⊎_, inl, inr, ⊎-elim}
+use mathlib.Core.Logic.{_≢_, inl, inr, ⊎-elim}
 use mathlib.Core.Bool.{true, false}
-use mathlib.Core.List.{List, _∷_, List·Memᴰ, List·Memᴰ·cases-cons}
-use mathlib.Core.Option.{Option, none, some}
-use Prim.Native.Nat.{ℕ, suc, _+_, _-_, _/_, _≤_, _<_}
+use mathlib.Core.List.{List, _∷_, List·Memᴰ·cases-cons}
+use mathlib.Core.Option.{none}
+use Prim.Native.Nat.{ℕ, suc, _+_, _≤_, _<_}
 use native.Mathlib.Omega.{arith}
 use native.Mathlib.Decide.{ℕ-discrete}
-use lib.Dec.{leb, ltb}
-use borrow.Author.Tests.{ltb-true, ltb-false, leb-false, eqb-true, le-leb, lt-ltb}
-use Rattle.tables.specs.Table.{at, put}
+use borrow.Author.Tests.{eqb-true, lt-ltb}
+use Rattle.tables.specs.Table.{put}
 use Rattle.tables.specs.Pair.{pair, word}
-use Rattle.tables.proofs.Choice.{by-test, not-both}
+use Rattle.tables.proofs.Choice.{by-test}
 use Rattle.tables.proofs.Table.{put-same, put-other}
 use Rattle.tables.proofs.Pair.{pair-inj}
-use Rattle.tables.proofs.Loop.{any-at}
 use Rattle.tables.proofs.Tests.{Passed}
 use Rattle.counters.specs.Counters.{risenTo}
 use Rattle.counters.specs.declared.Counters.{Counters}
 use Rattle.kinds.specs.declared.Step.{Step}
 use Rattle.kinds.specs.Kinds.{serve, return}
-use Rattle.chain.specs.Chain.{size, newest, latest}
-use Rattle.chain.specs.declared.Version.{Version}
-use Rattle.chain.proofs.Laws.{size-in, Newest, no-version, version, newest-is}
 use Rattle.group.specs.declared.Slot.{Slot}
 use Rattle.group.specs.declared.Ask.{Ask}
 use Rattle.group.specs.declared.Note.{Note}
@@ -34,75 +29,20 @@ use Rattle.group.specs.declared.Turn.{Turn}
 use Rattle.group.specs.declared.Answer.the-variants.{Done, Value, Wait}
 use Rattle.group.specs.declared.Answer.the-variants as Answer
 use Rattle.group.specs.Answer.{turn}
-use Rattle.group.specs.State.{State, holds, numberAt, unfinished, has, stageNumber, askOf, noteOf, finalOf, atStage, slotAt, countersAt}
-use Rattle.read.specs.Read.{readAt, blocks, blocked, valueOf, noteFor, waitFor, serveTurn, spoilt, returnTurn, returnReads}
+use Rattle.group.specs.State.{State, holds, stageNumber, askOf, noteOf, finalOf, atStage, slotAt, countersAt}
+use Rattle.read.specs.Read.{readAt, blocked, noteFor, waitFor, serveTurn, spoilt, returnTurn, returnReads}
 use Rattle.score.specs.Desk.{placeOf, deskOf, putBack, turned, withReads}
 use Rattle.score.specs.Steps.{needs, does}
 use Rattle.serial.specs.Serial.{Handed}
-use Rattle.serial.proofs.Inv.{Nodes, Slots, Links, Ground, From, from, Into, into, Latest, untouched, last, Reading, Given, Took}
+use Rattle.read.proofs.Reasons.{nothing-to-come}
+use Rattle.read.proofs.Laws.{serve-waits, serve-notes}
+use Rattle.serial.proofs.Inv.{Given, Ground, Nodes, Reading, Slots, Took}
 use Rattle.serial.proofs.Quiet.{QuietAt, still, still-given}
-use Rattle.serial.proofs.Views.{fixedAt, groundOf, nodesOf, slotsOf, linksOf, All, setCounters, setSlot, setTables}
-use Rattle.serial.proofs.Change.{Rows, no-rows, read-rows, moved, slot-here, alike, quietly, counters-here, early-one, no-read, any-counters, risen-to}
-use Rattle.serial.proofs.Slots.{free, stage-only, restaged, stage-here, final-here, snap-here, undecided, aborts}
-
--- an unfinished entry, by its tag
-pub pends : (f : List ℕ) (u n : ℕ) → 3 ≤ at f (pair 8 u n) 0 / word → at f (pair 8 u n) 0 / word ≤ 4 → unfinished f u n ≡ true
-unfolding unfinished
-pends f u n l h = rw (le-leb _ _ l, le-leb _ _ h)
-
--- where nothing blocks a read at s, what is pending is above s
-unblocked : (f w : List ℕ) (n c s : ℕ) → blocked f w n c s ≡ false → (u : ℕ) → u < 32 → unfinished f u n ≡ true → has w u c ≡ true → s < numberAt f u n
-unfolding blocked blocks
-unblocked f w n c s e u hu p h =
-    by-test (leb (numberAt f u n) s) (λ z. absurd (not-both refl (rw (p, z, h) at (any-at (blocks f w n c s) 32 e u hu)))) (λ z. leb-false _ _ z)
-
--- ---- the version that a lookup finds is what the copy holds
-
-module _ (first : ℕ → ℕ) (s : State) (H : List Handed) (a : All first s H) (n c k : ℕ) (hn : n < 8) (hc : c < 32) (held : holds (s .group .masks) n c ≡ true)
-    (later : (u : ℕ) → u < 32 → 3 ≤ slotsOf s .tag u n → slotsOf s .tag u n ≤ 4 → 0 < slotsOf s .wr u c → k < slotsOf s .num u n) where
-  abbrev G : Ground
-  G = groundOf s first
-
-  abbrev S : Slots
-  S = slotsOf s
-
-  abbrev K : Links
-  K = linksOf s
-
-  -- a writer of the cell that is at or below k is finished here: it stands in the chain
-  stands : (u : ℕ) → u < 32 → 0 < S .fin u → 0 < S .wr u c → S .fin u ≤ k → Into K n c (S .fin u) (S .wr u c)
-  stands u hu f w l = let b = a .inv .deciding u hu in let v = b .voted n hn f (b .entered n c hn hc f held (omega arith)) in
-      elim (ℕ-discrete (S .tag u n) 5) [
-        | yes e ↦ a .inv .chaining .kept n c u hn hc hu held f w e
-        | no e ↦ let x = later u hu v (omega (arith, b .low n hn)) w in elim (ℕ-discrete (S .tag u n) 3) [
-          | yes z ↦ absurd (omega (arith, b .below n hn f z))
-          | no z ↦ absurd (omega (arith, b .learned n hn (omega (arith, b .low n hn))))
-        ]
-      ]
-
-  sized : size (s .chains .lens) c n ≡ K .len c n
-  sized = size-in (s .chains .lens) c n (a .inv .chaining .some n c hn hc held .1)
-
-  found : (r : Option Version) → Newest (s .chains .lens) (s .chains .versions) c n k r → Latest G S c k (valueOf r)
-  found none (no-version f) = absurd (omega (arith, f 0 (omega (arith, sized, a .inv .chaining .some n c hn hc held)), a .inv .chaining .zero n c hn hc held))
-  found (some v) (version i h l f) = elim (ℕ-discrete i 0) [
-    | yes e ↦ untouched (λ u hu g w. by-test (ltb k (S .fin u)) (λ z. ltb-true _ _ z) (λ z. absurd (above u g w (omega (arith, e)) (stands u hu g w (ltb-false _ _ z)) (ltb-false _ _ z))))
-        (ap (K .vval c n) e ∙ a .inv .chaining .zero n c hn hc held .1)
-    | no e ↦ writer (a .inv .chaining .made n c i hn hc held (omega arith) (omega (arith, sized)))
-  ]
-    where
-      above : (u : ℕ) → 0 < S .fin u → 0 < S .wr u c → i ≡ 0 → Into K n c (S .fin u) (S .wr u c) → S .fin u ≤ k → ⊥
-      above u g w z (into j p b x y) o = omega (arith, f j (omega arith) (omega (arith, sized)))
-
-      most : (u t : ℕ) → K .vnum c n i ≡ S .fin t → S .fin u ≤ k → Into K n c (S .fin u) (S .wr u c) → S .fin u ≤ S .fin t
-      most u t z o (into j p b x y) = by-test (ltb i j) (λ q. absurd (omega (arith, f j (ltb-true _ _ q) (omega (arith, sized)))))
-          (λ q. by-test (ltb j i) (λ q′. omega (arith, a .inv .chaining .up n c j i hn hc held (ltb-true _ _ q′) (omega (arith, sized)))) (λ q′. let d : i ≡ j = omega (arith, ltb-false) in omega (arith, ap (K .vnum c n) d)))
-
-      writer : From S n c (K .vnum c n i) (K .vval c n i) → Latest G S c k (K .vval c n i)
-      writer (from t ht g w x y) = last t ht g w (omega arith) (λ u hu g′ w′ o. most u t y o (stands u hu g′ w′ o))
-
-  pub looked-up : Latest G S c k (valueOf (newest (s .chains .lens) (s .chains .versions) c n k))
-  looked-up = found _ (newest-is (s .chains .lens) (s .chains .versions) c n k)
+use Rattle.serial.proofs.Views.{All, fixedAt, groundOf, nodesOf, pends, setCounters, setSlot, setTables, slotsOf}
+use Rattle.serial.proofs.Rows.{Rows, no-rows, read-rows}
+use Rattle.serial.proofs.Change.{alike, any-counters, counters-here, early-one, moved, no-read, quietly, risen-to, slot-here}
+use Rattle.serial.proofs.Stages.{aborts, final-here, free, restaged, snap-here, stage-here, stage-only, undecided}
+use Rattle.serial.proofs.Looking.{looked-up}
 
 -- ---- rule A
 
@@ -179,7 +119,7 @@ module _ (first : ℕ → ℕ) (s : State) (H : List Handed) (a : All first s H)
     }
       where
         later : (u : ℕ) → u < 32 → 3 ≤ slotsOf s₁ .tag u (ask .node) → slotsOf s₁ .tag u (ask .node) ≤ 4 → 0 < slotsOf s₁ .wr u (ask .cell) → k < slotsOf s₁ .num u (ask .node)
-        later u hu l h w = unblocked (s .flight) (s .writes) (ask .node) (ask .cell) k b u hu (pends (s .flight) u (ask .node) l h) (lt-ltb _ _ w)
+        later u hu l h w = nothing-to-come (slotAt s t) (countersAt s (placeOf s x)) (s .flight) (s .writes) (s .chains) k (ap (λ (z : Turn). z .answer) (serve-notes (slotAt s t) (countersAt s (placeOf s x)) (s .flight) (s .writes) (s .chains) b)) u hu (pends (s .flight) u (ask .node) l h) (lt-ltb _ _ w)
 
     done : blocked (s .flight) (s .writes) (ask .node) (ask .cell) k ≡ false → All first (setSlot s₁ t (atStage (slotAt s t) (Served (noteFor (s .chains) ask k)))) H
     unfolding noteFor
@@ -205,10 +145,10 @@ module _ (first : ℕ → ℕ) (s : State) (H : List Handed) (a : All first s H)
         quiet₁ = stage-only (slotsOf s₁) (slotsOf (setSlot s₁ t y)) t none (final-here first s₁ H a₁ x ht st) (λ n hn. refl) (λ n hn. refl) (λ c hc. refl) (λ c hc. refl) (snap-here first s₁ H a₁ x ht st)
 
   pub serve-keeps : placeOf s x ≡ askOf (slotAt s t .stage) .node → Passed (needs (deskOf s x) x serve) → All first (putBack s x (does (deskOf s x) x serve .desk)) H
-  unfolding needs does deskOf serveTurn
+  unfolding needs does deskOf
   serve-keeps p o = by-test (blocked (s .flight) (s .writes) (ask e p .node) (ask e p .cell) (k e p))
-      (λ b. subst (λ (z : Turn). All first (putBack s x (turned (deskOf s x) z .desk)) H) (sym (waits b)) (turned-risen waiting (k e p) refl (wait e p)))
-      (λ b. subst (λ (z : Turn). All first (putBack s x (turned (deskOf s x) z .desk)) H) (sym (notes b)) (turned-risen noting (k e p) refl (done e p b)))
+      (λ b. subst (λ (z : Turn). All first (putBack s x (turned (deskOf s x) z .desk)) H) (sym (serve-waits (slotAt s t) c (s .flight) (s .writes) (s .chains) b)) (turned-risen waiting (k e p) refl (wait e p)))
+      (λ b. subst (λ (z : Turn). All first (putBack s x (turned (deskOf s x) z .desk)) H) (sym (serve-notes (slotAt s t) c (s .flight) (s .writes) (s .chains) b)) (turned-risen noting (k e p) refl (done e p b)))
     where
       e : slotsOf s .stg t ≡ 2
       e = eqb-true _ _ (o .0)
@@ -221,12 +161,6 @@ module _ (first : ℕ → ℕ) (s : State) (H : List Handed) (a : All first s H)
 
       noting : Turn
       noting = turn (Done (k e p)) (atStage (slotAt s t) (Served (noteFor (s .chains) (ask e p) (k e p)))) (risenTo c (k e p))
-
-      waits : blocked (s .flight) (s .writes) (ask e p .node) (ask e p .cell) (k e p) ≡ true → serveTurn (slotAt s t) c (s .flight) (s .writes) (s .chains) ≡ waiting
-      waits b = rw (b, serveTurn)
-
-      notes : blocked (s .flight) (s .writes) (ask e p .node) (ask e p .cell) (k e p) ≡ false → serveTurn (slotAt s t) c (s .flight) (s .writes) (s .chains) ≡ noting
-      notes b = rw (b, serveTurn)
 
   -- ---- rule B
 

@@ -18,7 +18,8 @@ use Rattle.serial.proofs.Inv.{Slots, Ground, Writes, writes}
 use Rattle.serial.proofs.Quiet.{Alike}
 use Rattle.serial.proofs.Joins.{Entry, here, away}
 use Rattle.serial.proofs.Views.{fixedAt, groundOf, slotsOf, Sizes, setCounters, setSlot, setTables, entry}
-use Rattle.serial.proofs.Change.{Rows, no-rows, moved, alike, slot-here}
+use Rattle.serial.proofs.Change.{moved, alike, slot-here}
+use Rattle.serial.proofs.Rows.{Rows, no-rows}
 
 -- node n holds a cell that t read or wrote
 pub data Touches (G : Ground) (S : Slots) (t n : ℕ) : Type 0 where
@@ -77,14 +78,6 @@ alike-shaped G S S′ t o u v k a = record {
     spreads (everywhere f) = everywhere (λ n c hn hc h l. rw (k .tag n hn) (f n c hn hc h (rw (k .rd c hc, k .wr c hc) at l)))
 
 -- ---- changes
-
--- counters alone: nothing here looks at them
-pub counters-shape : (s : State) (n : ℕ) (c : Counters) → Shape s → Shape (setCounters s n c)
-counters-shape s n c a = record { nodes-low = a .nodes-low; cells-low = a .cells-low; masks = a .masks; slots = a .slots }
-
--- chains alone
-pub chains-shape : (s : State) (h : Chains) → Shape s → Shape (setTables s (s .flight) h (s .writes) (s .reads))
-chains-shape s h a = record { nodes-low = a .nodes-low; cells-low = a .cells-low; masks = a .masks; slots = a .slots }
 
 -- one transaction's slot and rows
 pub moved-shape : (s : State) (t : ℕ) (x : Slot) (f w r : List ℕ) → Sizes s → t < 32 → Rows s t f w r

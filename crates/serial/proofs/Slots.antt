@@ -7,14 +7,12 @@ use mathlib.Core.List.{List}
 use Prim.Native.Nat.{ℕ, suc, _+_, _-_, _≤_, _<_}
 use native.Mathlib.Omega.{arith}
 use native.Mathlib.Decide.{ℕ-discrete}
-use lib.ListN.{length}
 use borrow.Author.Tests.{leb-true, eqb-true}
 use Rattle.tables.specs.Table.{at, put}
 use Rattle.tables.specs.Pair.{pair, word}
 use Rattle.tables.proofs.Choice.{by-test, and-true}
 use Rattle.tables.proofs.Table.{put-same, put-other}
 use Rattle.tables.proofs.Pair.{pair-inj}
-use Rattle.tables.proofs.Loop.{each-size, each-hit, each-miss}
 use Rattle.tables.proofs.Tests.{Passed}
 use Rattle.kinds.specs.declared.Step.{Step}
 use Rattle.kinds.specs.Kinds.{begin, write, ask, giveUp, abandon}
@@ -22,8 +20,8 @@ use Rattle.group.specs.declared.Slot.{Slot}
 use Rattle.group.specs.declared.Stage.{Stage}
 use Rattle.group.specs.declared.Snapshot.{Snapshot}
 use Rattle.group.specs.declared.Snapshot.the-variants.{Unfixed, Fixed}
-use Rattle.group.specs.declared.Stage.the-variants.{Unused, Open, Asking, Served, Voting, Committed, Aborted}
-use Rattle.group.specs.State.{State, holds, noted, has, stageNumber, askOf, noteOf, finalOf, atStage, slotAt, countersAt}
+use Rattle.group.specs.declared.Stage.the-variants.{Asking, Aborted}
+use Rattle.group.specs.State.{State, holds, noted, has, stageNumber, finalOf, atStage, slotAt, countersAt}
 use Rattle.counters.specs.declared.Counters.{Counters}
 use Rattle.group.specs.declared.Turn.{Turn}
 use Rattle.group.specs.declared.Answer.the-variants.{Done, Value}
@@ -32,76 +30,11 @@ use Rattle.read.specs.Read.{askTests, askFor, askTurn}
 use Rattle.score.specs.Desk.{placeOf, deskOf, putBack, turned}
 use Rattle.score.specs.Steps.{cleared, opens, needs, does}
 use Rattle.serial.specs.Serial.{Handed}
-use Rattle.serial.proofs.Inv.{Nodes, Slots, Ground, Transaction, Reading}
-use Rattle.serial.proofs.Quiet.{QuietAt}
-use Rattle.serial.proofs.Views.{fixedAt, groundOf, nodesOf, slotsOf, Sizes, All, setCounters, setSlot, setTables, same-counters, same-slot}
-use Rattle.serial.proofs.Change.{Rows, no-rows, written-rows, moved, slot-here, quietly, nothing-new, early-one, aborted-one, no-read}
-
--- no final number but for a committed one
-pub no-final : (st : Stage) → stageNumber st ≢ 5 → finalOf st ≡ 0
-no-final Unused h = refl
-no-final Open h = refl
-no-final (Asking a) h = refl
-no-final (Served v) h = refl
-no-final Voting h = refl
-no-final (Committed k) h = absurd (h refl)
-no-final Aborted h = refl
-
--- a transaction with nothing pending after the change, that keeps what it was handed
-pub free :
-    (S S′ : Slots) (t : ℕ) → S .fin t ≡ 0 → S′ .fin t ≡ 0 → ((n : ℕ) → n < 8 → S′ .tag t n ≤ 2) → (0 < S .snap t → S′ .snap t ≡ S .snap t)
-    → ((c : ℕ) → c < 32 → 0 < S .snap t → 0 < S .rd t c → 0 < S′ .rd t c) → QuietAt S S′ t
-free S S′ t f f′ low fixed joined = record {
-  none = f;
-  none′ = f′;
-  tag = λ n hn l. absurd (omega (arith, low n hn));
-  num = λ n hn l. absurd (omega (arith, low n hn));
-  wr = λ n c hn hc l. absurd (omega (arith, low n hn));
-  rd = λ n c hn hc l. absurd (omega (arith, low n hn));
-  snap = λ n hn l. absurd (omega (arith, low n hn));
-  fixed = fixed;
-  joined = joined;
-}
-
--- a transaction whose entries, writes, reads and snapshot stay
-pub stage-only :
-    (S S′ : Slots) (t : ℕ) → S .fin t ≡ 0 → S′ .fin t ≡ 0 → ((n : ℕ) → n < 8 → S′ .tag t n ≡ S .tag t n) → ((n : ℕ) → n < 8 → S′ .num t n ≡ S .num t n)
-    → ((c : ℕ) → c < 32 → S′ .wr t c ≡ S .wr t c) → ((c : ℕ) → c < 32 → S′ .rd t c ≡ S .rd t c) → S′ .snap t ≡ S .snap t → QuietAt S S′ t
-stage-only S S′ t f f′ tag num wr rd snap = record {
-  none = f;
-  none′ = f′;
-  tag = λ n hn l h. tag n hn;
-  num = λ n hn l h. num n hn;
-  wr = λ n c hn hc l h. wr c hc;
-  rd = λ n c hn hc l h. rd c hc;
-  snap = λ n hn l h. snap;
-  fixed = λ l. snap;
-  joined = λ c hc l b. rw (rd c hc) b;
-}
-
--- ---- a row that was cleared
-
-cleared-size : (l : List ℕ) (t : ℕ) → length (cleared l t) ≡ length l
-unfolding cleared
-cleared-size l t = each-size 0 _ _ l 32
-
-pub cleared-here : (l : List ℕ) (t c : ℕ) → length l ≡ 1024 → t < 32 → c < 32 → at (cleared l t) (pair 32 t c) 0 ≡ 0
-unfolding cleared
-cleared-here l t c e ht hc = each-hit 0 (pair 32 t) (λ i z. 0) l 32 c hc (omega arith) (λ i j lt hj z. omega arith)
-
-cleared-away : (l : List ℕ) (t u c : ℕ) → c < 32 → u ≢ t → at (cleared l t) (pair 32 u c) 0 ≡ at l (pair 32 u c) 0
-unfolding cleared
-cleared-away l t u c hc d = each-miss 0 (pair 32 t) (λ i z. 0) l 32 (pair 32 u c) (λ i hi e. d (sym (pair-inj 32 t i u c hi hc e .0)))
-
-pub cleared-rows : (s : State) (t : ℕ) → Sizes s → Rows s t (s .flight) (cleared (s .writes) t) (cleared (s .reads) t)
-cleared-rows s t z = record {
-  flight256 = z .flight256;
-  writes1024 = cleared-size (s .writes) t ∙ z .writes1024;
-  reads1024 = cleared-size (s .reads) t ∙ z .reads1024;
-  flight = λ u n hu hn d. refl;
-  writes = λ u c hu hc d. cleared-away (s .writes) t u c hc d;
-  reads = λ u c hu hc d. cleared-away (s .reads) t u c hc d;
-}
+use Rattle.serial.proofs.Inv.{Ground, Nodes, Slots}
+use Rattle.serial.proofs.Views.{All, fixedAt, groundOf, nodesOf, same-slot, setSlot, slotsOf}
+use Rattle.serial.proofs.Rows.{Rows, cleared-here, cleared-rows, written-rows}
+use Rattle.serial.proofs.Change.{early-one, moved, no-read, nothing-new, quietly, slot-here}
+use Rattle.serial.proofs.Stages.{aborts, final-here, free, restaged, snap-here, stage-here, turned-slot, undecided, unmoved}
 
 module _ (first : ℕ → ℕ) (s : State) (H : List Handed) (a : All first s H) (x : Step) (ht : x .slot < 32) where
   abbrev t : ℕ
@@ -110,19 +43,10 @@ module _ (first : ℕ → ℕ) (s : State) (H : List Handed) (a : All first s H)
   abbrev S : Slots
   S = slotsOf s
 
-  -- before it is decided, a transaction has no final number
-  pub undecided : (k : ℕ) → S .stg t ≡ k → k ≢ 5 → S .fin t ≡ 0
-  undecided k e d = no-final (slotAt s t .stage) (λ z. d (sym e ∙ z))
-
-  -- whatever is put back, the node's counters are as they were
-  unmoved : (y : Slot) (f w r : List ℕ) → All first (setTables (setSlot s t y) f (s .chains) w r) H
-      → All first (setTables (setSlot (setCounters s (placeOf s x) (countersAt s (placeOf s x))) t y) f (s .chains) w r) H
-  unmoved y f w r b = subst (λ (z : State). All first (setTables (setSlot z t y) f (s .chains) w r) H) (sym (same-counters s (placeOf s x))) b
-
   pub begin-keeps : Passed (needs (deskOf s x) x begin) → All first (putBack s x (does (deskOf s x) x begin .desk)) H
   unfolding needs does deskOf putBack
-  begin-keeps o = unmoved (opens x) (s .flight) w r (quietly s t (opens x) (s .flight) w r first H H ht rows
-      (free S S′ t (undecided 0 e (λ z. omega arith)) (ap (λ (y : Slot). finalOf (y .stage)) here) (λ n hn. omega (arith, none n hn)) (λ l. absurd (omega (arith, unfixed))) (λ c hc l. absurd (omega (arith, unfixed))))
+  begin-keeps o = unmoved first s H a x ht (opens x) (s .flight) w r (quietly s t (opens x) (s .flight) w r first H H ht rows
+      (free S S′ t (undecided first s H a x ht 0 e (λ z. omega arith)) (ap (λ (y : Slot). finalOf (y .stage)) here) (λ n hn. omega (arith, none n hn)) (λ l. absurd (omega (arith, unfixed))) (λ c hc l. absurd (omega (arith, unfixed))))
       (early-one G C S′ t (ap (λ (y : Slot). finalOf (y .stage)) here) (λ c hc l b. absurd (omega (arith, cleared-here (s .writes) t c (a .sizes .writes1024) ht hc))) (λ c hc. omega (arith, cleared-here (s .writes) t c (a .sizes .writes1024) ht hc))
       (omega (arith, opened)) none)
       (no-read G C S′ t _ _ (λ z. omega (arith, opened)) (λ z. omega (arith, opened)) (λ z. absurd (omega (arith, opened))) (omega (arith, ap (λ (y : Slot). fixedAt (y .snapshot)) here))) (nothing-new G C S′ H) a)
@@ -162,9 +86,9 @@ module _ (first : ℕ → ℕ) (s : State) (H : List Handed) (a : All first s H)
 
   pub write-keeps : x .cell < s .group .cells → x .value < word → Passed (needs (deskOf s x) x write) → All first (putBack s x (does (deskOf s x) x write .desk)) H
   unfolding needs does deskOf putBack
-  write-keeps hc hv o = unmoved y (s .flight) w (s .reads) (quietly s t y (s .flight) w (s .reads) first H H ht rows
-      (free S S′ t (undecided 1 e (λ z. omega arith)) (ap (λ (z : Slot). finalOf (z .stage)) here ∙ undecided 1 e (λ z. omega arith)) (λ n hn. omega (arith, none n hn)) (λ l. ap (λ (z : Slot). fixedAt (z .snapshot)) here) (λ c h l b. b))
-      (early-one G C S′ t (ap (λ (z : Slot). finalOf (z .stage)) here ∙ undecided 1 e (λ z. omega arith)) inRun values (omega (arith, still, e)) none)
+  write-keeps hc hv o = unmoved first s H a x ht y (s .flight) w (s .reads) (quietly s t y (s .flight) w (s .reads) first H H ht rows
+      (free S S′ t (undecided first s H a x ht 1 e (λ z. omega arith)) (ap (λ (z : Slot). finalOf (z .stage)) here ∙ undecided first s H a x ht 1 e (λ z. omega arith)) (λ n hn. omega (arith, none n hn)) (λ l. ap (λ (z : Slot). fixedAt (z .snapshot)) here) (λ c h l b. b))
+      (early-one G C S′ t (ap (λ (z : Slot). finalOf (z .stage)) here ∙ undecided first s H a x ht 1 e (λ z. omega arith)) inRun values (omega (arith, still, e)) none)
       (no-read G C S′ t _ _ (λ z. omega (arith, still, e)) (λ z. omega (arith, still, e)) (λ z. absurd (omega (arith, still, e))) (omega (arith, ap (λ (z : Slot). fixedAt (z .snapshot)) here, a .inv .reading t ht .bounded))) (nothing-new G C S′ H) a)
     where
       G : Ground
@@ -210,77 +134,31 @@ module _ (first : ℕ → ℕ) (s : State) (H : List Handed) (a : All first s H)
       values : (c : ℕ) → c < 32 → S′ .wr t c ≤ word
       values c h = elim (ℕ-discrete c (x .cell)) [ yes z ↦ rw (wrote c h z) (omega arith) | no z ↦ rw (other c h z) (a .inv .deciding t ht .values c h) ]
 
-  -- a slot at another stage, with nothing else changed: the transaction had no final number and has none
-  pub restaged :
-      (st : Stage) → S .fin t ≡ 0 → finalOf st ≡ 0 → Transaction (groundOf s first) (nodesOf s) (slotsOf (setSlot s t (atStage (slotAt s t) st))) t
-      → Reading (groundOf s first) (nodesOf s) (slotsOf (setSlot s t (atStage (slotAt s t) st))) t (askOf st) (noteOf st) → All first (setSlot s t (atStage (slotAt s t) st)) H
-  restaged st f f′ own its =
-      quietly s t y (s .flight) (s .writes) (s .reads) first H H ht (no-rows s t (a .sizes))
-      (stage-only S (slotsOf (setSlot s t y)) t f (ap (λ (z : Slot). finalOf (z .stage)) here ∙ f′) (λ n hn. refl) (λ n hn. refl) (λ c hc. refl) (λ c hc. refl) (ap (λ (z : Slot). fixedAt (z .snapshot)) here))
-      own its (nothing-new (groundOf s first) (nodesOf s) (slotsOf (setSlot s t y)) H) a
-    where
-      y : Slot
-      y = atStage (slotAt s t) st
-
-      here : slotAt (setSlot s t y) t ≡ y
-      here = slot-here s t y (s .flight) (s .writes) (s .reads) (a .sizes) ht
-
-  pub stage-here : (st : Stage) → slotsOf (setSlot s t (atStage (slotAt s t) st)) .stg t ≡ stageNumber st
-  stage-here st = ap (λ (z : Slot). stageNumber (z .stage)) (slot-here s t (atStage (slotAt s t) st) (s .flight) (s .writes) (s .reads) (a .sizes) ht)
-
-  pub final-here : (st : Stage) → slotsOf (setSlot s t (atStage (slotAt s t) st)) .fin t ≡ finalOf st
-  final-here st = ap (λ (z : Slot). finalOf (z .stage)) (slot-here s t (atStage (slotAt s t) st) (s .flight) (s .writes) (s .reads) (a .sizes) ht)
-
-  pub snap-here : (st : Stage) → slotsOf (setSlot s t (atStage (slotAt s t) st)) .snap t ≡ S .snap t
-  snap-here st = ap (λ (z : Slot). fixedAt (z .snapshot)) (slot-here s t (atStage (slotAt s t) st) (s .flight) (s .writes) (s .reads) (a .sizes) ht)
-
-  -- aborted, from a stage in which nothing is learned
-  pub aborts : 0 < S .stg t → S .fin t ≡ 0 → ((n : ℕ) → n < 8 → S .tag t n ≤ 3) → All first (setSlot s t (atStage (slotAt s t) Aborted)) H
-  aborts l f low =
-      restaged Aborted f refl
-      (aborted-one G C S′ t (final-here Aborted) (λ c hc k b. a .inv .deciding t ht .inRun c hc l b) (a .inv .deciding t ht .values) (stage-here Aborted) (λ n hn. omega (arith, low n hn)) (a .inv .deciding t ht .outside) (λ n hn z. omega (arith, low n hn)))
-      (no-read G C S′ t _ _ (λ z. omega (arith, stage-here Aborted)) (λ z. omega (arith, stage-here Aborted)) (λ z. absurd (omega (arith, stage-here Aborted))) (omega (arith, snap-here Aborted, a .inv .reading t ht .bounded)))
-    where
-      G : Ground
-      G = groundOf s first
-
-      C : Nodes
-      C = nodesOf s
-
-      S′ : Slots
-      S′ = slotsOf (setSlot s t (atStage (slotAt s t) Aborted))
-
   pub give-up-keeps : Passed (needs (deskOf s x) x giveUp) → All first (putBack s x (does (deskOf s x) x giveUp .desk)) H
   unfolding needs does deskOf putBack
   give-up-keeps o = let e : S .stg t ≡ 4 = eqb-true _ _ (o .0) in
-      unmoved (atStage (slotAt s t) Aborted) (s .flight) (s .writes) (s .reads) (aborts (omega (arith, e)) (undecided 4 e (λ z. omega arith)) (λ n hn. a .inv .deciding t ht .voting n hn e))
+      unmoved first s H a x ht (atStage (slotAt s t) Aborted) (s .flight) (s .writes) (s .reads) (aborts first s H a x ht (omega (arith, e)) (undecided first s H a x ht 4 e (λ z. omega arith)) (λ n hn. a .inv .deciding t ht .voting n hn e))
 
   pub abandon-keeps : Passed (needs (deskOf s x) x abandon) → All first (putBack s x (does (deskOf s x) x abandon .desk)) H
   unfolding needs does deskOf putBack
   abandon-keeps o = let r = and-true _ _ (o .0) in let l : 1 ≤ S .stg t = leb-true _ _ (r .0) in let h : S .stg t ≤ 3 = leb-true _ _ (r .1) in
-      unmoved (atStage (slotAt s t) Aborted) (s .flight) (s .writes) (s .reads)
-      (aborts l (undecided (S .stg t) refl (λ z. omega arith)) (λ n hn. omega (arith, a .inv .deciding t ht .early n hn (omega arith))))
-
-  -- what lies on the desk after a turn that moved the slot alone
-  pub turned-slot : (z : Turn) → z .counters ≡ countersAt s (placeOf s x) → All first (setSlot s t (z .slot)) H → All first (putBack s x (turned (deskOf s x) z .desk)) H
-  unfolding deskOf putBack
-  turned-slot z e b = subst (λ (c : Counters). All first (setTables (setSlot (setCounters s (placeOf s x) c) t (z .slot)) (s .flight) (s .chains) (s .writes) (s .reads)) H) (sym e)
-      (unmoved (z .slot) (s .flight) (s .writes) (s .reads) b)
+      unmoved first s H a x ht (atStage (slotAt s t) Aborted) (s .flight) (s .writes) (s .reads)
+      (aborts first s H a x ht l (undecided first s H a x ht (S .stg t) refl (λ z. omega arith)) (λ n hn. omega (arith, a .inv .deciding t ht .early n hn (omega arith))))
 
   pub ask-keeps : countersAt s (placeOf s x) .commit < word → x .node < s .group .nodes → x .cell < s .group .cells → Passed (needs (deskOf s x) x ask) → All first (putBack s x (does (deskOf s x) x ask .desk)) H
   unfolding needs does deskOf askTests askTurn
   ask-keeps low hn hc o = by-test (has (s .writes) t (x .cell))
-      (λ e. subst (λ (z : Turn). All first (putBack s x (turned (deskOf s x) z .desk)) H) (sym (own e)) (turned-slot (turn (Value 0 (noted (s .writes) t (x .cell) - 1)) (slotAt s t) k) refl (subst (λ (z : State). All first z H) (sym (same-slot s t)) a)))
+      (λ e. subst (λ (z : Turn). All first (putBack s x (turned (deskOf s x) z .desk)) H) (sym (own e)) (turned-slot first s H a x ht (turn (Value 0 (noted (s .writes) t (x .cell) - 1)) (slotAt s t) k) refl (subst (λ (z : State). All first z H) (sym (same-slot s t)) a)))
       (λ e. subst (λ (z : Turn). All first (putBack s x (turned (deskOf s x) z .desk)) H) (sym (other e))
-      (turned-slot (turn (Done 0) (atStage (slotAt s t) st) k) refl (restaged st (undecided 1 opened (λ z. omega arith)) refl
-      (early-one G C S′ t (final-here st) (λ c h l b. a .inv .deciding t ht .inRun c h (omega (arith, opened)) b) (a .inv .deciding t ht .values) (omega (arith, stage-here st)) none)
+      (turned-slot first s H a x ht (turn (Done 0) (atStage (slotAt s t) st) k) refl (restaged first s H a x ht st (undecided first s H a x ht 1 opened (λ z. omega arith)) refl
+      (early-one G C S′ t (final-here first s H a x ht st) (λ c h l b. a .inv .deciding t ht .inRun c h (omega (arith, opened)) b) (a .inv .deciding t ht .values) (omega (arith, stage-here first s H a x ht st)) none)
       (record {
         asked = λ z. asked (slotAt s t .snapshot) (a .inv .reading t ht .bounded) low e;
-        exact = λ z f. exact (slotAt s t .snapshot) (snap-here st) f;
-        served = λ z. absurd (omega (arith, stage-here st));
-        same = λ z. absurd (omega (arith, stage-here st));
-        unused = λ z. absurd (omega (arith, stage-here st));
-        bounded = omega (arith, snap-here st, a .inv .reading t ht .bounded);
+        exact = λ z f. exact (slotAt s t .snapshot) (snap-here first s H a x ht st) f;
+        served = λ z. absurd (omega (arith, stage-here first s H a x ht st));
+        same = λ z. absurd (omega (arith, stage-here first s H a x ht st));
+        unused = λ z. absurd (omega (arith, stage-here first s H a x ht st));
+        bounded = omega (arith, snap-here first s H a x ht st, a .inv .reading t ht .bounded);
       }))))
     where
       G : Ground

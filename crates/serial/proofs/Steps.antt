@@ -3,12 +3,12 @@
 use mathlib.Core.Path.{_≡_, refl, sym, ap, subst, _∙_}
 use mathlib.Core.Logic.{_≢_}
 use mathlib.Core.Bool.{Bool, true, false, cond, not, _||_}
-use mathlib.Core.List.{List, [], _∷_, _++_, List·Memᴰ, List·Memᴰ·tail}
+use mathlib.Core.List.{List, [], _∷_, _++_, List·Memᴰ·head, List·Memᴰ·tail}
 use mathlib.Core.Option.{Option, none, some}
-use Prim.Native.Nat.{ℕ, _+_, _-_, _%_, _<_}
+use Prim.Native.Nat.{ℕ, _%_, _≤_, _<_}
 use native.Mathlib.Omega.{arith}
 use lib.Dec.{leb, ltb, eqb}
-use borrow.Author.Tests.{ltb-true, ltb-false, eqb-true}
+use borrow.Author.Tests.{ltb-true, ltb-false, eqb-true, ne-eqb}
 use Rattle.tables.specs.Table.{at}
 use Rattle.tables.specs.Pair.{word}
 use Rattle.tables.specs.Tests.{refusal}
@@ -20,10 +20,11 @@ use Rattle.kinds.specs.declared.Step.{Step}
 use Rattle.kinds.specs.declared.Fields.{Fields}
 use Rattle.kinds.specs.Kinds.{Kind, begin, write, ask, serve, return, commit, prepare, decide, giveUp, learn, apply, advance, abandon, named, usesOf}
 use Rattle.kinds.proofs.Laws.{usesBy, uses-named}
-use Rattle.number.specs.Proposal.{proposal, IsProposal, number, nothing}
+use Rattle.number.specs.Proposal.{proposal, IsProposal, number}
 use Rattle.number.proofs.Laws.{proposal-is}
 use Rattle.group.specs.declared.Answer.{Answer}
-use Rattle.group.specs.declared.Answer.the-variants.{Done, Value, Wait, Yes, No, Committed, Aborted, Cut, Refused}
+use Rattle.group.specs.declared.Answer.the-variants.{Value, Aborted}
+use Rattle.group.specs.Answer.{said}
 use Rattle.group.specs.State.{State, noteOf, slotAt, countersAt}
 use Rattle.whole.specs.Whole.{whole}
 use Rattle.read.specs.Read.{spoilt, returnTurn}
@@ -31,27 +32,23 @@ use Rattle.vote.specs.Vote.{reason, voteFor, vote, voteRise}
 use Rattle.settle.specs.Settle.{learnTests}
 use Rattle.score.specs.Desk.{nodeOf, placeOf, deskOf, putBack, Outcome}
 use Rattle.score.specs.Steps.{fieldTests, needs, does, rise, cuts, refuses, judge, act, stepWhole, stepOf}
+use Rattle.score.proofs.Codes.{Accepted, refused-coded}
 use Rattle.serial.specs.Serial.{Handed, Run, handedBy, next, runOf, Steps32}
 use Rattle.serial.proofs.Views.{slotsOf, All, setCounters, setSlot, same-counters, same-slot}
 use Rattle.serial.proofs.Change.{any-counters, counted-to}
 use Rattle.serial.proofs.Slots.{begin-keeps, write-keeps, ask-keeps, give-up-keeps, abandon-keeps}
 use Rattle.serial.proofs.Reading.{serve-keeps, handing, return-hands, return-spoils, read-low, note-low}
-use Rattle.serial.proofs.Voting.{commit-keeps, prepare-keeps, decide-keeps}
-use Rattle.serial.proofs.Settling.{learn-keeps, apply-keeps, advance-keeps}
+use Rattle.serial.proofs.Committing.{commit-keeps}
+use Rattle.serial.proofs.Preparing.{prepare-keeps}
+use Rattle.serial.proofs.Deciding.{decide-keeps}
+use Rattle.serial.proofs.Learning.{learn-keeps}
+use Rattle.serial.proofs.Applying.{apply-keeps, advance-keeps}
 
 -- ---- what is handed
 
 -- only a return hands out of the store
 pub nothing-handed : (s : State) (x : Step) (r : Answer) → eqb (x .kind) 5 ≡ false → handedBy s x r ≡ []
-nothing-handed s x (Done k) e = refl
-nothing-handed s x (Value k v) e = rw e
-nothing-handed s x (Wait k) e = refl
-nothing-handed s x (Yes k) e = refl
-nothing-handed s x (No k) e = refl
-nothing-handed s x (Committed k) e = refl
-nothing-handed s x Aborted e = refl
-nothing-handed s x Cut e = refl
-nothing-handed s x (Refused c) e = refl
+nothing-handed s x r e = by-test (eqb (said r .code) 1) (λ c. rw (c, e)) (λ c. rw c)
 
 -- kind 5 is return
 five : (k : ℕ) → named k ≢ return → eqb k 5 ≡ false
@@ -197,19 +194,20 @@ module _ (first : ℕ → ℕ) (s : State) (H : List Handed) (a : All first s H)
 
   -- ---- every step of a state
 
-  refused-same : (c : ℕ) → After (refuses (deskOf s x) c)
+  -- a code of 16 or more is not that of a value
+  refused-same : (c : ℕ) → 16 ≤ c → After (refuses (deskOf s x) c)
   unfolding deskOf putBack
-  refused-same c = subst (λ (z : State). All first (setSlot z (x .slot) (slotAt s (x .slot))) H) (sym (same-counters s (placeOf s x))) (subst (λ (z : State). All first z H) (sym (same-slot s (x .slot))) a)
+  refused-same c h = rw (ne-eqb c 1 (λ z. omega arith)) (subst (λ (z : State). All first (setSlot z (x .slot) (slotAt s (x .slot))) H) (sym (same-counters s (placeOf s x))) (subst (λ (z : State). All first z H) (sym (same-slot s (x .slot))) a))
 
-  judged : (r : Option ℕ) → refusal (fieldTests (s .group .nodes) (s .group .cells) x (needs (deskOf s x) x (named (x .kind)))) ≡ r
+  judged : (r : Option ℕ) → Accepted r → refusal (fieldTests (s .group .nodes) (s .group .cells) x (needs (deskOf s x) x (named (x .kind)))) ≡ r
       → After (judge r (deskOf s x) (cond (leb 128 (x .kind)) (cuts (deskOf s x) x (named (x .kind))) (does (deskOf s x) x (named (x .kind)))))
-  judged none e = let o = passed _ e in let f = fields-in s x (named (x .kind)) (needs (deskOf s x) x (named (x .kind))) refl o in
+  judged none h e = let o = passed _ e in let f = fields-in s x (named (x .kind)) (needs (deskOf s x) x (named (x .kind))) refl o in
       by-test (leb 128 (x .kind)) (λ b. rw b (cuts-keep (named (x .kind)) refl f (o .1 .1 .1))) (λ b. rw b (kinds-keep (named (x .kind)) refl f (o .1 .1 .1)))
-  judged (some c) e = refused-same c
+  judged (some c) h e = refused-same c (h .0)
 
   pub whole-step : All first (stepWhole s x .state) (handedBy s x (stepWhole s x .answer) ++ H)
   unfolding stepWhole act deskOf
-  whole-step = judged _ refl
+  whole-step = judged (refusal (fieldTests (s .group .nodes) (s .group .cells) x (needs (deskOf s x) x (named (x .kind))))) (refused-coded (deskOf s x) x (named (x .kind))) refl
 
 pub step-keeps : (first : ℕ → ℕ) (r : Run) (x : Step) → x .value < word → All first (r .state) (r .handed) → All first (next r x .state) (next r x .handed)
 unfolding next stepOf
@@ -220,4 +218,4 @@ step-keeps first r x hv a = by-test (whole (r .state)) (λ b. rw (b, stepOf) (wh
 pub run-keeps : (first : ℕ → ℕ) (xs : List Step) (r : Run) → Steps32 xs → All first (r .state) (r .handed) → All first (runOf r xs .state) (runOf r xs .handed)
 unfolding runOf
 run-keeps first [] r v a = a
-run-keeps first (x ∷ xs) r v a = run-keeps first xs (next r x) (v .1) (step-keeps first r x (v .0) a)
+run-keeps first (x ∷ xs) r v a = run-keeps first xs (next r x) (λ y m. v y (List·Memᴰ·tail m)) (step-keeps first r x (v x (List·Memᴰ·head refl)) a)

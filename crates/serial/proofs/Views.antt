@@ -19,10 +19,11 @@ use Rattle.group.specs.declared.Snapshot.the-variants.{Unfixed, Fixed}
 use Rattle.group.specs.declared.Slot.{Slot}
 use Rattle.group.specs.declared.Ask.{Ask}
 use Rattle.group.specs.declared.Note.{Note}
-use Rattle.group.specs.State.{State, holds, tagAt, numberAt, entered, noted, stageNumber, askOf, noteOf, finalOf, noSlot, slotAt, countersAt}
+use Rattle.group.specs.State.{State, holds, tagAt, numberAt, entered, noted, stageNumber, askOf, noteOf, finalOf, noSlot, slotAt, countersAt, unfinished}
 use Rattle.serial.specs.Serial.{Handed}
-use Rattle.serial.proofs.Inv.{Nodes, Slots, Links, Ground, Inv}
-use Rattle.serial.proofs.Joins.{Entry, here, away}
+use borrow.Author.Tests.{le-leb}
+use Rattle.serial.proofs.Inv.{Ground, Inv, Links, Nodes, Slots}
+use Rattle.serial.proofs.Joins.{Entry, away, here}
 
 -- a snapshot as a number: 0 for none, else one more
 abbrev pub fixedAt : Snapshot → ℕ
@@ -136,3 +137,8 @@ entry s t n g k l ht hn hk u m hu hm = elim (ℕ-discrete (pair 8 u m) (pair 8 t
   | no e ↦ let x = put-other (s .flight) (pair 8 t n) (pair word g k) (pair 8 u m) 0 e in
       away (λ p d. e (ap (λ (i : ℕ). pair 8 i m) p ∙ ap (pair 8 t) d)) (ap (_/ word) x) (ap (_% word) x)
 ]
+
+-- an unfinished entry, by its tag
+pub pends : (f : List ℕ) (u n : ℕ) → 3 ≤ at f (pair 8 u n) 0 / word → at f (pair 8 u n) 0 / word ≤ 4 → unfinished f u n ≡ true
+unfolding unfinished
+pends f u n l h = rw (le-leb _ _ l, le-leb _ _ h)

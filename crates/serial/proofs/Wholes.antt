@@ -20,14 +20,14 @@ use Rattle.group.specs.declared.Stage.{Stage}
 use Rattle.group.specs.declared.Stage.the-variants.{Unused, Open, Asking, Served, Voting, Committed, Aborted}
 use Rattle.group.specs.declared.Snapshot.{Snapshot}
 use Rattle.group.specs.declared.Snapshot.the-variants.{Unfixed, Fixed}
-use Rattle.group.specs.State.{State, holds, sent, tagAt, unfinished, noted, has, writer, involved, unused, served, voting, committed, aborted, stageNumber, isFixed, inStage, slotAt}
+use Rattle.group.specs.State.{State, holds, tagAt, unfinished, noted, has, writer, involved, unused, committed, stageNumber, isFixed, inStage, slotAt}
 use Rattle.whole.specs.Whole.{implies, same, countsSound, maskSound, masksSound, entrySound, rowSound, flightSound, noteSound, notesSound, askedSound, placesSound, setSound, setsSound, slotSound, spreadAt, spread, emptyAt, empty, spreadSound, unlearnedAt, votingSound, finalAt, unapplyingAt, committedSound, transactionSound, ascendsAt, chainSound, chainAt, cellSound, chainsSound, differAt, fitsAt, pendingSound, nodeSound, whole}
 use Rattle.serial.specs.Serial.{Handed}
 use Rattle.serial.proofs.Inv.{Slots, Links, Ground, Writes, writes, Transaction}
 use Rattle.serial.proofs.Views.{fixedAt, groundOf, nodesOf, slotsOf, linksOf, All}
-use Rattle.serial.proofs.Voting.{involves}
 use Rattle.serial.proofs.Shape.{Touches, touches, Spread, nowhere, everywhere, ShapedAt, Shape}
-use Rattle.serial.proofs.ShapeSteps.{involved-touches}
+use Rattle.serial.proofs.Rows.{involves}
+use Rattle.serial.proofs.ShapeTurns.{involved-touches}
 
 -- ---- tests
 

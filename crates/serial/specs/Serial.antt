@@ -14,29 +14,24 @@ use Rattle.tables.specs.Loop.{any, turns}
 use Rattle.chain.specs.Chain.{size, versionAt}
 use Rattle.kinds.specs.declared.Step.{Step}
 use Rattle.group.specs.declared.Answer.{Answer}
-use Rattle.group.specs.declared.Answer.the-variants.{Done, Value, Wait, Yes, No, Committed, Aborted, Cut, Refused}
 use Rattle.group.specs.State.{State, holds, unfinished, noted, has, writer, committed, inStage, noteOf, finalOf, slotAt}
+use Rattle.group.specs.Answer.{said}
 use Rattle.group.specs.Fresh.{fresh}
 use Rattle.score.specs.Steps.{stepOf}
 
 -- a sound group: 1 to 8 nodes with their counters, 1 to 32 cells with masks of the run's nodes, all numbers and values of 32 bits
 pub record Sound (nodes cells : ℕ) (counters masks values : List ℕ) : Type 0 where
-  pub nodes-low : 1 ≤ nodes
-  pub nodes-high : nodes ≤ 8
-  pub cells-low : 1 ≤ cells
-  pub cells-high : cells ≤ 32
-  pub counters8 : length counters ≡ 8
-  pub masks32 : length masks ≡ 32
-  pub values32 : length values ≡ 32
+  pub nodes-in : (1 ≤ nodes) × (nodes ≤ 8)
+  pub cells-in : (1 ≤ cells) × (cells ≤ 32)
+  pub lengths : (length counters ≡ 8) × (length masks ≡ 32) × (length values ≡ 32)
   pub counters-fit : (n : ℕ) → at counters n 0 < word
   pub values-fit : (c : ℕ) → at values c 0 < word
   pub masks-in : (c : ℕ) → c < cells → (0 < at masks c 0) × (at masks c 0 < 2 ^ nodes)
   pub masks-out : (c : ℕ) → cells ≤ c → at masks c 0 ≡ 0
 
--- any steps: their fields are any numbers, values of 32 bits
+-- any steps: their fields are any numbers, their values of 32 bits
 abbrev pub Steps32 : List Step → Type 0
-Steps32 [] = Unit {0}
-Steps32 (x ∷ xs) = (x .value < word) × Steps32 xs
+Steps32 xs = (x : Step) → List·Memᴰ x xs → x .value < word
 
 -- ---- a run, and the values it hands out
 
@@ -52,19 +47,12 @@ pub record Run : Type 0 where
   pub state : State
   pub handed : List Handed
 
--- only a whole return hands out of the store: it answers the snapshot and the value, of the cell that was noted
+-- only a whole return that answers code 1 hands out of the store: the snapshot and the value that it answers, of the cell that was noted
 abbrev pub handedBy : State → Step → Answer → List Handed
-handedBy s x (Done k) = []
-handedBy s x (Value k v) =
+handedBy s x a =
     let note = noteOf (slotAt s (x .slot) .stage) in
-    cond (eqb (x .kind) 5) (record { slot = x .slot; node = note .node; cell = note .cell; s = k; value = v } ∷ []) []
-handedBy s x (Wait k) = []
-handedBy s x (Yes k) = []
-handedBy s x (No k) = []
-handedBy s x (Committed k) = []
-handedBy s x Aborted = []
-handedBy s x Cut = []
-handedBy s x (Refused c) = []
+    let h : Handed = record { slot = x .slot; node = note .node; cell = note .cell; s = said a .number; value = said a .value } in
+    cond (eqb (said a .code) 1 && eqb (x .kind) 5) (h ∷ []) []
 
 unfoldable pub next : Run → Step → Run
 next r x = let o = stepOf (r .state) x in record { state = o .state; handed = handedBy (r .state) x (o .answer) ++ r .handed }
@@ -102,6 +90,10 @@ unfoldable pub copyAfter : State → (ℕ → ℕ) → List ℕ → ℕ → ℕ
 copyAfter s copy [] = copy
 copyAfter s copy (t ∷ ts) = copyAfter s (ranOn s t copy) ts
 
+-- the copy after the committed writers whose number passes p
+abbrev pub copyOf : (ℕ → ℕ) → State → (ℕ → Bool) → ℕ → ℕ
+copyOf first s p = copyAfter s first (writers s p)
+
 -- ---- the claim
 
 pub record Serial (first : ℕ → ℕ) (r : Run) : Type 0 where
@@ -110,16 +102,13 @@ pub record Serial (first : ℕ → ℕ) (r : Run) : Type 0 where
       (t u : ℕ) → t < 32 → u < 32 → t ≢ u → isWriter (r .state) t ≡ true → isWriter (r .state) u ≡ true
       → numberOf (r .state) t ≢ numberOf (r .state) u
   -- every value ever handed out is the copy's after all numbers up to the reader's snapshot
-  pub explained :
-      (h : Handed) → List·Memᴰ h (r .handed)
-      → h .value ≡ copyAfter (r .state) first (writers (r .state) (λ k. leb k (h .s))) (h .cell)
+  pub explained : (h : Handed) → List·Memᴰ h (r .handed) → h .value ≡ copyOf first (r .state) (λ k. leb k (h .s)) (h .cell)
   -- for a committed writer it is also the value just before its own turn
   pub own-turn :
       (h : Handed) → List·Memᴰ h (r .handed) → isWriter (r .state) (h .slot) ≡ true
-      → h .value ≡ copyAfter (r .state) first (writers (r .state) (λ k. ltb k (numberOf (r .state) (h .slot)))) (h .cell)
+      → h .value ≡ copyOf first (r .state) (λ k. ltb k (numberOf (r .state) (h .slot))) (h .cell)
   -- a holder with no unfinished write of a cell holds the copy's end value as its newest
   pub newest :
       (n c : ℕ) → n < 8 → c < 32 → holds (r .state .group .masks) n c ≡ true
       → any 32 (λ t. unfinished (r .state .flight) t n && has (r .state .writes) t c) ≡ false
-      → versionAt (r .state .chains .versions) c n (size (r .state .chains .lens) c n - 1) .value
-      ≡ copyAfter (r .state) first (writers (r .state) (λ k. true)) c
+      → versionAt (r .state .chains .versions) c n (size (r .state .chains .lens) c n - 1) .value ≡ copyOf first (r .state) (λ k. true) c

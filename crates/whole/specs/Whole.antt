@@ -1,17 +1,16 @@
 -- Is a state whole? The paper's paragraph, sentence by sentence. What belongs to nothing (an unused slot, the chain of a node that does not
 -- hold the cell, versions past a chain's length) is not judged.
 -- Assumes nothing.
-use mathlib.Core.Bool.{Bool, true, false, cond, not, _&&_, _||_}
+use mathlib.Core.Bool.{Bool, cond, not, _&&_, _||_}
 use mathlib.Core.List.{List}
-use Prim.Native.Nat.{ℕ, _+_, _-_, _/_, _^_}
+use Prim.Native.Nat.{ℕ, _+_, _-_, _^_}
 use lib.Dec.{leb, ltb, eqb}
 use Rattle.tables.specs.Table.{at}
-use Rattle.tables.specs.Pair.{pair, word}
+use Rattle.tables.specs.Pair.{word}
 use Rattle.tables.specs.Loop.{any, every}
 use Rattle.chain.specs.Chain.{Chains, chains, lenAt, versionAt, latest, hasRoom}
 use Rattle.group.specs.declared.Slot.{Slot}
-use Rattle.group.specs.declared.Group.{Group}
-use Rattle.group.specs.State.{State, holds, idle, sent, votedNo, votedYes, toApply, finished, tagAt, numberAt, unfinished, has, writer, involved, unused, asking, served, voting, committed, aborted, stageNumber, askOf, noteOf, finalOf, isFixed, inStage, noSlot, slotAt}
+use Rattle.group.specs.State.{State, holds, idle, sent, votedYes, toApply, finished, tagAt, numberAt, unfinished, has, writer, involved, unused, asking, served, voting, committed, aborted, stageNumber, askOf, noteOf, finalOf, isFixed, inStage, noSlot, slotAt}
 
 -- b, where a
 abbrev pub implies : Bool → Bool → Bool
@@ -198,8 +197,3 @@ whole s =
     && every 32 (transactionSound s)
     && chainsSound (g .nodes) (g .cells) (g .masks) (s .chains)
     && every (g .nodes) (nodeSound (g .cells) (g .masks) (s .flight) (s .chains) (s .writes))
-
--- a state from the group and the tables that are lent
-abbrev pub stateOf : Group → List ℕ → List ℕ → List ℕ → List ℕ → List ℕ → State
-stateOf g flight lens versions writes reads =
-    record { group = g; flight = flight; chains = chains lens versions; writes = writes; reads = reads }

@@ -11,7 +11,9 @@ use group::Group;
 use group::Slot;
 ghost use mathlib.Core.Path.{_≡_};
 ghost use Prim.Native.Nat.{_≤_, _<_};
-ghost use Rattle.whole.specs.Whole.{slotWhole, slotsWhole, stateOf, whole as wholeOf};
+ghost use Rattle.chain.specs.Chain.{chains};
+ghost use Rattle.group.specs.State.{stateOf};
+ghost use Rattle.whole.specs.Whole.{slotWhole, slotsWhole, whole as wholeOf};
 
 // All that is said of one transaction.
 fn transaction_sound(
@@ -66,7 +68,7 @@ pub fn whole(
     writes: &[u64; 1024],
     reads: &[u64; 1024],
 ) -> bool
-    ensures { λ r. ⌜ r ≡ wholeOf (stateOf g (now (flight .entry)) (now (lens .entry)) (now (versions .entry)) (now (writes .entry)) (now (reads .entry))) ⌝ }
+    ensures { λ r. ⌜ r ≡ wholeOf (stateOf g (now (flight .entry)) (chains (now (lens .entry)) (now (versions .entry))) (now (writes .entry)) (now (reads .entry))) ⌝ }
 {
     let nodes = g.nodes;
     let cells = g.cells;
