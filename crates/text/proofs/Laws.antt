@@ -65,6 +65,18 @@ pub decimal-size : (n : ℕ) → (1 ≤ length (decimal n)) × (length (decimal 
 unfolding decimal
 decimal-size n = (decimal-some-in 9 n, decimal-size-in 10 n)
 
+short-in : (k j n : ℕ) → n < 10 ^ suc j → length (decimalIn k n) ≤ suc j
+unfolding decimalIn
+short-in zero j n h = omega arith
+short-in (suc k) zero n h = omega (arith, decimal-size-one k n (omega arith))
+short-in (suc k) (suc j) n h =
+    by-digits n (λ l. omega (arith, decimal-size-one k n l)) (λ l. omega (arith, decimal-size-more k n l, short-in k j (n / 10) (omega arith)))
+
+-- a number below ten, a hundred, .. has one digit, two, ..
+pub decimal-short : (j n : ℕ) → n < 10 ^ suc j → length (decimal n) ≤ suc j
+unfolding decimal
+decimal-short j n h = short-in 10 j n h
+
 -- ---- a number read back from its digits
 
 -- what bytes stand for, where v was read before them
@@ -275,6 +287,15 @@ pub placed-both :
     (out : List ℕ) (i : ℕ) (xs ys : List ℕ) → i + length (xs ++ ys) ≤ length out
     → placed (placed out i xs) (after (length out) i xs) ys ≡ placed out i (xs ++ ys)
 placed-both out i xs ys h = wrote-both out i xs _ _ ys _ _ h (refl, refl) (refl, refl) .1
+
+pub placed-then :
+    (out : List ℕ) (i : ℕ) (xs ys : List ℕ) → i + length (xs ++ ys) ≤ length out
+    → placed (placed out i xs) (i + length xs) ys ≡ placed out i (xs ++ ys)
+placed-then out i xs ys h = rw (after-in (length out) i xs (omega (arith, length-append xs ys))) at (placed-both out i xs ys h)
+
+-- no bytes change nothing
+pub placed-none : (out : List ℕ) (i : ℕ) → placed out i [] ≡ out
+placed-none out i = by-end (length out) i [] (λ h. placed-in out i [] h) (λ h. placed-out out i [] h)
 
 pub after-both :
     (len i : ℕ) (xs ys : List ℕ) → i + length (xs ++ ys) ≤ len → after len (after len i xs) ys ≡ after len i (xs ++ ys)

@@ -18,7 +18,7 @@ fn room(len: usize, at: usize, k: usize) -> bool
 }
 
 // How many digits a number has.
-fn size(x: u32) -> usize
+pub fn size(x: u32) -> usize
     ensures { λ r. ⌜ (r ≡ length (decimalOf x)) × (r ≤ 10) ⌝ }
 {
     let mut high = x;
@@ -89,11 +89,18 @@ pub fn closed(out: &mut [u8], at: usize, x: u32, b: u8) -> usize
     }
 }
 
+// How many bytes a line of four numbers has.
+pub fn line_size(a: u32, b: u32, c: u32, d: u32) -> usize
+    ensures { λ r. ⌜ (r ≡ length (lineOf (a ∷ b ∷ c ∷ d ∷ []))) × (r ≤ 44) ⌝ }
+{
+    size(a) + size(b) + size(c) + size(d) + 4
+}
+
 // A line of four numbers.
 pub fn line(out: &mut [u8], at: usize, a: u32, b: u32, c: u32, d: u32) -> usize
     ensures { λ r. ⌜ (r ≡ after (length (now (out .entry))) at (lineOf (a ∷ b ∷ c ∷ d ∷ []))) × (now (out .exit) ≡ placed (now (out .entry)) at (lineOf (a ∷ b ∷ c ∷ d ∷ []))) ⌝ }
 {
-    if room(out.len(), at, size(a) + size(b) + size(c) + size(d) + 4) {
+    if room(out.len(), at, line_size(a, b, c, d)) {
         let second = closed(out, at, a, 32);
         let third = closed(out, second, b, 32);
         let fourth = closed(out, third, c, 32);

@@ -8,33 +8,12 @@ use lib.ListN.{length}
 use borrow.Author.Tests.{leb-true, leb-false}
 use borrow.Author.Needs.{needs}
 use Rattle.text.specs.Text.{lineOf}
-use Rattle.text.proofs.Laws.{line-length, wrote-none, wrote-line}
+use Rattle.text.proofs.Laws.{wrote-none, wrote-line}
 use Rattle.text.proofs.line.Statement.{statement}
 use Rattle.text.proofs.line.Tie as tie
 
-size-requires : tie.Need-size-requires
-size-requires c κs = search needs
-
-size-requires-2 : tie.Need-size-requires-2
-size-requires-2 c κs = search needs
-
-add-room : tie.Need-add-room
-add-room c = search needs
-
-size-requires-3 : tie.Need-size-requires-3
-size-requires-3 c κs = search needs
-
-add-room-2 : tie.Need-add-room-2
-add-room-2 c = search needs
-
-size-requires-4 : tie.Need-size-requires-4
-size-requires-4 c κs = search needs
-
-add-room-3 : tie.Need-add-room-3
-add-room-3 c = search needs
-
-add-room-4 : tie.Need-add-room-4
-add-room-4 c = search needs
+line-size-requires : tie.Need-line-size-requires
+line-size-requires c κs = search needs
 
 room-requires : tie.Need-room-requires
 room-requires c κs = search needs
@@ -54,29 +33,12 @@ closed-requires-4 c κs = search needs
 same-length : tie.Need-same-length
 same-length c = search needs
 
--- how many bytes that is
-many :
-    (c : tie.After-size4)
-    → let a = c .before .before .before .before .before .args in
-    length (lineOf (a .a ∷ a .b ∷ a .c ∷ a .d ∷ []))
-    ≡ c .before .before .before .size .result + c .before .before .size2 .result + c .before .size3 .result + c .size4 .result + 4
-many c =
-    let a = c .before .before .before .before .before .args in
-    omega (
-      arith,
-      line-length (a .a) (a .b) (a .c) (a .d),
-      c .before .before .before .size .ensures .0,
-      c .before .before .size2 .ensures .0,
-      c .before .size3 .ensures .0,
-      c .size4 .ensures .0,
-    )
-
 -- where the test passes
 inside :
     (c : tie.Then1)
-    → let a = c .before .before .before .before .before .before .before .args in
+    → let a = c .before .before .before .before .args in
     a .at + length (lineOf (a .a ∷ a .b ∷ a .c ∷ a .d ∷ [])) ≤ length (a .out .now)
-inside c = let e = sym (c .before .room .ensures) ∙ c .if1 .taken in omega (arith, leb-true, many (c .before .before))
+inside c = let e = sym (c .before .room .ensures) ∙ c .if1 .taken in omega (arith, leb-true, c .before .before .line-size .ensures .0)
 
 returns : tie.Need-returns
 returns c =
@@ -101,22 +63,15 @@ returns c =
 
 returns-2 : tie.Need-returns-2
 returns-2 c =
-    let a = c .before .before .before .before .before .before .before .args in
+    let a = c .before .before .before .before .args in
     let e = sym (c .before .room .ensures) ∙ c .if1 .left in
-    wrote-none (a .out .now) (a .at) (lineOf (a .a ∷ a .b ∷ a .c ∷ a .d ∷ [])) (omega (arith, leb-false, many (c .before .before)))
+    wrote-none (a .out .now) (a .at) (lineOf (a .a ∷ a .b ∷ a .c ∷ a .d ∷ [])) (omega (arith, leb-false, c .before .before .line-size .ensures .0))
 
 pub line-spec : {M : Type 1} → statement M
 line-spec =
     tie.close
     (tie.spec
-    size-requires
-    size-requires-2
-    add-room
-    size-requires-3
-    add-room-2
-    size-requires-4
-    add-room-3
-    add-room-4
+    line-size-requires
     room-requires
     closed-requires
     closed-requires-2

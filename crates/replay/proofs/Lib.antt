@@ -1,0 +1,8 @@
+pub mod Laws
+pub mod Going
+pub mod FrontLaws
+pub mod Sounds
+pub mod Playing
+pub mod Texts
+pub mod Opened
+pub mod Longest
