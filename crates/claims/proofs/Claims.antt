@@ -5,7 +5,8 @@ use mathlib.Core.Path.{_≡_, refl}
 use mathlib.Core.Logic.{_≢_}
 use mathlib.Core.List.{List, []}
 use mathlib.Core.Option.{Option}
-use Prim.Native.Nat.{ℕ}
+use Prim.Native.Nat.{ℕ, _≤_}
+use lib.ListN.{length}
 use Rattle.tables.specs.Table.{at}
 use Rattle.number.specs.Proposal.{proposal, IsProposal}
 use Rattle.number.proofs.Laws.{proposal-is, proposal-only}
@@ -22,6 +23,9 @@ use Rattle.score.specs.Steps.{does, cuts, stepWhole, stepOf}
 use Rattle.little.proofs.Laws.{Bytes}
 use Rattle.runfile.specs.File.{File, got, bytesOf, readFile}
 use Rattle.runfile.proofs.BothWays.{Sound, read-written, written-read, one-run, one-file, Outcome, outcome}
+use Rattle.text.specs.Text.{placed}
+use Rattle.replay.specs.Replay.{textOf}
+use Rattle.replay.proofs.Longest.{longest-text}
 use Rattle.serial.specs.Serial as Group
 use Rattle.serial.specs.Serial.{Steps32, start, runOf, Serial}
 use Rattle.serial.proofs.Theorem.{serial}
@@ -33,6 +37,7 @@ use Rattle.claims.specs.Pinned.{pinned}
 use Rattle.claims.specs.Between.{begun, steps, summaryOf, summary, Explained}
 use Rattle.claims.proofs.Computed.{computed}
 use Rattle.claims.proofs.Between.{summed, explained}
+use Rattle.claims.proofs.Decided.{same}
 
 -- ---- demands 1 and 2
 
@@ -81,6 +86,18 @@ one-file-a-run = one-file
 -- Any bytes are the file of a sound run, or have one fault of 32 to 36.
 pub sound-or-faulty : (b : List ℕ) → Bytes b → Outcome b
 sound-or-faulty = outcome
+
+-- Replay: the file's bytes alone decide what is printed, byte for byte, and how long it is ..
+pub replay-decided :
+    (file out : List ℕ) (r r′ : ℕ) (out₁ out₂ : List ℕ)
+    → (r ≡ length (textOf (readFile file))) × (out₁ ≡ placed out 0 (textOf (readFile file)))
+    → (r′ ≡ length (textOf (readFile file))) × (out₂ ≡ placed out 0 (textOf (readFile file)))
+    → (r ≡ r′) × (out₁ ≡ out₂)
+replay-decided file out r r′ out₁ out₂ p q = (same r r′ _ (p .0) (q .0), same out₁ out₂ _ (p .1) (q .1))
+
+-- .. and an output of 122,894 bytes is always enough.
+pub always-fits : (file : List ℕ) → Bytes file → length (textOf (readFile file)) ≤ 122894
+always-fits = longest-text
 
 -- ---- demand 3
 

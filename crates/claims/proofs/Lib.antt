@@ -1,4 +1,5 @@
 mod Computed
 mod Between
 pub mod Rules
+pub mod Decided
 pub mod Claims
