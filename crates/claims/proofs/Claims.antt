@@ -35,7 +35,9 @@ use Rattle.claims.specs.Example.{AllHold}
 use Rattle.claims.specs.Starred.{starred}
 use Rattle.claims.specs.Pinned.{pinned}
 use Rattle.claims.specs.Between.{begun, steps, summaryOf, summary, Explained}
+use Rattle.claims.specs.Tables.{Tabled}
 use Rattle.claims.proofs.Computed.{computed}
+use Rattle.claims.proofs.Tabled.{tabled}
 use Rattle.claims.proofs.Between.{summed, explained}
 use Rattle.claims.proofs.Decided.{same}
 
@@ -67,6 +69,10 @@ starred-examples = computed .0
 
 pub pinned-examples : AllHold pinned
 pinned-examples = computed .1
+
+-- The paper's tables and limits, entry by entry: the fields that each kind uses, each fault, the code of each answer.
+pub tables : Tabled
+tables = tabled
 
 -- Run files. Reading what was written gives the same run back ..
 pub read-back : (f : File) → Sound f → readFile (bytesOf f) ≡ got f []
