@@ -5,8 +5,8 @@ use mathlib.Core.Path.{_≡_, refl}
 use mathlib.Core.Logic.{_≢_}
 use mathlib.Core.List.{List, []}
 use mathlib.Core.Option.{Option}
-use Prim.Native.Nat.{ℕ, _≤_}
-use lib.ListN.{length}
+use Prim.Native.Nat.{ℕ, _+_, _^_, _≤_, _<_}
+use lib.ListN.{length, getD, take, drop}
 use Rattle.tables.specs.Table.{at}
 use Rattle.number.specs.Proposal.{proposal, IsProposal}
 use Rattle.number.proofs.Laws.{proposal-is, proposal-only}
@@ -23,7 +23,9 @@ use Rattle.score.specs.Steps.{does, cuts, stepWhole, stepOf}
 use Rattle.little.proofs.Laws.{Bytes}
 use Rattle.runfile.specs.File.{File, got, bytesOf, readFile}
 use Rattle.runfile.proofs.BothWays.{Sound, read-written, written-read, one-run, one-file, Outcome, outcome}
-use Rattle.text.specs.Text.{placed}
+use Rattle.text.specs.Text.{decimal, placed}
+use Rattle.text.proofs.Digits.{decimal-first, decimal-only}
+use Rattle.text.proofs.Placed.{placed-there, placed-before, placed-beyond}
 use Rattle.replay.specs.Replay.{textOf}
 use Rattle.replay.proofs.Longest.{longest-text}
 use Rattle.serial.specs.Serial as Group
@@ -104,6 +106,21 @@ replay-decided file out r r′ out₁ out₂ p q = (same r r′ _ (p .0) (q .0),
 -- .. and an output of 122,894 bytes is always enough.
 pub always-fits : (file : List ℕ) → Bytes file → length (textOf (readFile file)) ≤ 122894
 always-fits = longest-text
+
+-- Numbers are printed without leading zeros, and no two alike.
+pub no-leading-zero : (n : ℕ) → n < 10 ^ 10 → getD (decimal n) 0 0 ≡ 48 → n ≡ 0
+no-leading-zero = decimal-first
+
+pub numbers-told : (m n : ℕ) → m < 10 ^ 10 → n < 10 ^ 10 → decimal m ≡ decimal n → m ≡ n
+numbers-told = decimal-only
+
+-- What placing bytes means: they stand there where they fit, and every byte before and beyond is as it was.
+pub placed-means :
+    (out : List ℕ) (i : ℕ) (bytes : List ℕ)
+    → (i + length bytes ≤ length out → take (length bytes) (drop i (placed out i bytes)) ≡ bytes)
+    × ((n : ℕ) → n ≤ i → take n (placed out i bytes) ≡ take n out)
+    × ((n : ℕ) → i + length bytes ≤ n → drop n (placed out i bytes) ≡ drop n out)
+placed-means out i bytes = (placed-there out i bytes, placed-before out i bytes, placed-beyond out i bytes)
 
 -- ---- demand 3
 

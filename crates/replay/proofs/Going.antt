@@ -28,7 +28,7 @@ use Rattle.score.specs.Parts.{outcome}
 use Rattle.score.specs.Steps.{act, Stepped, stepOf}
 use Rattle.score.proofs.WholeLaws.{whole-ready, put-back-at, is-whole}
 use Rattle.text.specs.Text.{placed}
-use Rattle.text.proofs.Laws.{placed-size, placed-none, placed-then}
+use Rattle.text.proofs.Placed.{placed-size, placed-none, placed-then}
 use Rattle.runfile.specs.File.{fieldsSound}
 use Rattle.runfile.specs.Parts.{stepIn, stepAt}
 use Rattle.runfile.proofs.Parts.{step-there}

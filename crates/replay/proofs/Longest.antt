@@ -6,7 +6,7 @@ use Prim.Native.Nat.{ℕ, _≤_}
 use native.Mathlib.Omega.{arith}
 use lib.ListN.{length, length-append}
 use Rattle.kinds.specs.declared.Step.{Step}
-use Rattle.text.proofs.Laws.{decimal-size}
+use Rattle.text.proofs.Digits.{decimal-size}
 use Rattle.little.proofs.Laws.{Bytes}
 use Rattle.runfile.specs.File.{File, Read, got, fault, readFile, joined, stepBytes}
 use Rattle.runfile.specs.Head.{headOf}

@@ -17,7 +17,8 @@ use Rattle.group.specs.Answer.{said}
 use Rattle.whole.specs.Whole.{whole}
 use Rattle.score.specs.Steps.{stepOf}
 use Rattle.score.proofs.Codes.{code-low}
-use Rattle.text.proofs.Laws.{line-length, decimal-short, decimal-size}
+use Rattle.text.proofs.Lines.{line-length}
+use Rattle.text.proofs.Digits.{decimal-short, decimal-size}
 use Rattle.runfile.specs.File.{File, joined, stepBytes, fieldsSound}
 use Rattle.runfile.specs.Head.{firsts, headOf}
 use Rattle.runfile.specs.Parts.{stepIn}

@@ -22,55 +22,29 @@ struct Reply {
     value: u32,
 }
 
+fn says(code: u32, number: u32, value: u32) -> Reply
+    ensures { λ r. ⌜ r ≡ record { code = code; number = number; value = value } ⌝ }
+{
+    Reply {
+        code,
+        number,
+        value,
+    }
+}
+
 fn reply_of(a: Answer) -> Reply
     ensures { λ r. ⌜ saidBy r ≡ said a ⌝ }
 {
     match a {
-        Answer::Done(k) => Reply {
-            code: 0,
-            number: k,
-            value: 0,
-        },
-        Answer::Value { s, value } => Reply {
-            code: 1,
-            number: s,
-            value,
-        },
-        Answer::Wait(s) => Reply {
-            code: 2,
-            number: s,
-            value: 0,
-        },
-        Answer::Yes(k) => Reply {
-            code: 3,
-            number: k,
-            value: 0,
-        },
-        Answer::No(reason) => Reply {
-            code: 4,
-            number: reason,
-            value: 0,
-        },
-        Answer::Committed(k) => Reply {
-            code: 5,
-            number: k,
-            value: 0,
-        },
-        Answer::Aborted => Reply {
-            code: 6,
-            number: 0,
-            value: 0,
-        },
-        Answer::Cut => Reply {
-            code: 7,
-            number: 0,
-            value: 0,
-        },
-        Answer::Refused(code) => Reply {
-            code: code,
-            number: 0,
-            value: 0,
-        },
+        Answer::Done(k) => says(0, k, 0),
+        Answer::Value { s, value } => says(1, s, value),
+        Answer::Wait(s) => says(2, s, 0),
+        Answer::Yes(k) => says(3, k, 0),
+        Answer::No(reason) => says(4, reason, 0),
+        Answer::Committed(k) => says(5, k, 0),
+        Answer::Aborted => says(6, 0, 0),
+        Answer::Cut => says(7, 0, 0),
+        Answer::Refused(code) => says(code, 0, 0),
     }
 }
 
