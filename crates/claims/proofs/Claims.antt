@@ -23,6 +23,7 @@ use Rattle.score.specs.Steps.{does, cuts, stepWhole, stepOf}
 use Rattle.little.proofs.Laws.{Bytes}
 use Rattle.runfile.specs.File.{File, got, bytesOf, readFile}
 use Rattle.runfile.proofs.BothWays.{Sound, read-written, written-read, one-run, one-file, Outcome, outcome}
+use Rattle.runfile.proofs.Longer.{longer-input}
 use Rattle.text.specs.Text.{decimal, placed}
 use Rattle.text.proofs.Digits.{decimal-first, decimal-only}
 use Rattle.text.proofs.Placed.{placed-there, placed-before, placed-beyond}
@@ -94,6 +95,10 @@ one-file-a-run = one-file
 -- Any bytes are the file of a sound run, or have one fault of 32 to 36.
 pub sound-or-faulty : (b : List ℕ) → Bytes b → Outcome b
 sound-or-faulty = outcome
+
+-- An input longer than the longest file is judged by its first 32,965 bytes, which is all that the run program reads.
+pub longer-judged : (b : List ℕ) → 32965 ≤ length b → readFile (take 32965 b) ≡ readFile b
+longer-judged = longer-input
 
 -- Replay: the file's bytes alone decide what is printed, byte for byte, and how long it is ..
 pub replay-decided :

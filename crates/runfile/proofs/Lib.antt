@@ -6,3 +6,4 @@ pub mod Reading
 pub mod Opening
 pub mod Writing
 pub mod Back
+pub mod Longer
