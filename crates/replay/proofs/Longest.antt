@@ -11,7 +11,8 @@ use Rattle.little.proofs.Laws.{Bytes}
 use Rattle.runfile.specs.File.{File, Read, got, fault, readFile, joined, stepBytes}
 use Rattle.runfile.specs.Head.{headOf}
 use Rattle.runfile.proofs.BothWays.{Sound, written-read}
-use Rattle.replay.specs.Replay.{linesFrom, freshOf, frontOf, textOf}
+use Rattle.listing.specs.Listing.{linesFrom, freshOf}
+use Rattle.replay.specs.Replay.{frontOf, textOf}
 use Rattle.replay.proofs.FrontLaws.{refused-length}
 use Rattle.replay.proofs.Playing.{steps-all, plays}
 

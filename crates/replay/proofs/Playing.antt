@@ -28,9 +28,10 @@ use Rattle.runfile.proofs.Reading.{firsts-size, at-firsts}
 use Rattle.runfile.proofs.Parts.{step-there, joined-step}
 use Rattle.serial.specs.Serial.{Steps32, Run, next, runOf}
 use Rattle.serial.proofs.Never.{whole-run}
-use Rattle.replay.specs.Replay.{lineFor, freshOf}
-use Rattle.replay.specs.Lines.{stateAfter, stepsTo, linesTo, Plays}
-use Rattle.replay.proofs.Laws.{lines-none, lines-step}
+use Rattle.listing.specs.Listing.{lineFor, freshOf}
+use Rattle.listing.specs.Going.{stateAfter, stepsTo, linesTo}
+use Rattle.replay.specs.Plays.{Plays}
+use Rattle.listing.proofs.Laws.{lines-none, lines-step}
 use Rattle.replay.proofs.FrontLaws.{front-short}
 use Rattle.replay.proofs.Sounds.{group-sound}
 

@@ -1,11 +1,11 @@
--- `replay::lines::reply_of` meets its contract, case by case.
+-- `listing::reply_of` meets its contract, case by case.
 -- Assumes nothing.
 use mathlib.Core.Path.{sym, ap, _∙_}
 use borrow.Author.Needs.{needs}
 use Rattle.group.specs.Answer.{said}
-use Rattle.replay.specs.Lines.{saidBy}
-use Rattle.replay.proofs.lines.reply_of.Statement.{statement}
-use Rattle.replay.proofs.lines.reply_of.Tie as tie
+use Rattle.listing.specs.Going.{saidBy}
+use Rattle.listing.proofs.reply_of.Statement.{statement}
+use Rattle.listing.proofs.reply_of.Tie as tie
 
 enum-known-a : tie.Need-enum-known-a
 enum-known-a c = search needs

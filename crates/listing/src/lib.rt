@@ -12,8 +12,8 @@ ghost use lib.ListN.{length};
 ghost use Rattle.chain.specs.Chain.{chains};
 ghost use Rattle.group.specs.State.{stateOf};
 ghost use Rattle.group.specs.Answer.{said};
-ghost use Rattle.replay.specs.Replay.{lineFor, freshOf};
-ghost use Rattle.replay.specs.Lines.{Goes, linesTo, shown, saidBy};
+ghost use Rattle.listing.specs.Listing.{lineFor, freshOf};
+ghost use Rattle.listing.specs.Going.{Goes, linesTo, shown, saidBy};
 
 // The paper's code, number and value of an answer.
 struct Reply {
@@ -76,7 +76,7 @@ fn narrow(i: usize) -> u32
 }
 
 // Goes through the steps from a state, and returns the place past the last line.
-pub(crate) fn lines(
+fn lines(
     g: Group,
     flight: &mut [u64; 256],
     lens: &mut [u8; 256],
@@ -135,7 +135,7 @@ pub(crate) fn lines(
 
 // The lines of a run from fresh, whose steps stand in the part: written from the place `start` on, or only counted. Returns the place past
 // the last.
-pub(crate) fn walk(h: Head, part: &[u8], out: &mut [u8], start: usize, write: bool) -> usize
+pub fn walk(h: Head, part: &[u8], out: &mut [u8], start: usize, write: bool) -> usize
     requires { ⌜ Goes (freshOf h) (now part) (h .steps) × (start ≤ 64)
         × (write ≡ true → start + length (linesTo (freshOf h) (now part) (h .steps)) ≤ length (now out)) ⌝ }
     ensures { λ r. ⌜ (r ≡ start + length (linesTo (freshOf h) (now (part .entry)) (h .steps)))

@@ -19,8 +19,8 @@ use Rattle.text.proofs.Placed.{Wrote, after-in}
 use Rattle.runfile.specs.Head.{firsts}
 use Rattle.runfile.specs.Parts.{stepIn}
 use Rattle.runfile.proofs.Reading.{firsts-next, firsts-size}
-use Rattle.replay.specs.Replay.{lineFor, linesFrom}
-use Rattle.replay.specs.Lines.{stateAfter, stepsTo, linesTo, shown}
+use Rattle.listing.specs.Listing.{lineFor, linesFrom}
+use Rattle.listing.specs.Going.{stateAfter, stepsTo, linesTo, shown}
 
 -- ---- one step more
 

@@ -32,9 +32,9 @@ use Rattle.text.proofs.Placed.{placed-size, placed-none, placed-then}
 use Rattle.runfile.specs.File.{fieldsSound}
 use Rattle.runfile.specs.Parts.{stepIn, stepAt}
 use Rattle.runfile.proofs.Parts.{step-there}
-use Rattle.replay.specs.Replay.{lineFor}
-use Rattle.replay.specs.Lines.{stateAfter, stepsTo, linesTo, shown, Goes}
-use Rattle.replay.proofs.Laws.{lineAt, states-next, states-none, lines-next, lines-none, lines-step, lines-size, lines-grow}
+use Rattle.listing.specs.Listing.{lineFor}
+use Rattle.listing.specs.Going.{stateAfter, stepsTo, linesTo, shown, Goes}
+use Rattle.listing.proofs.Laws.{lineAt, states-next, states-none, lines-next, lines-none, lines-step, lines-size, lines-grow}
 
 -- ---- the step that is taken
 
