@@ -30,8 +30,9 @@ use Rattle.settle.specs.Settle.{learnTests, applyTests, advanceTests}
 use Rattle.score.specs.Desk.{Desk, desk, turned, withCounters}
 use Rattle.score.specs.Steps.{fieldTests, needs, voteOf, does, rise, cuts, judge, act}
 use Rattle.score.specs.Parts.{fieldRefusal, beginTests, writeTests, giveUpTests, abandonTests, outcome}
-use Rattle.settle.proofs.Laws.{step-refused, Learned, Applied, Advanced}
-use Rattle.score.proofs.Laws.{not-in-stage, Begun, Written, Ended, kind-is}
+use Rattle.group.proofs.Turns.{not-in-stage, step-refused}
+use Rattle.settle.proofs.Laws.{Learned, Applied, Advanced}
+use Rattle.score.proofs.Laws.{Begun, Written, Ended, kind-is}
 
 -- ---- the fields of a step that is not refused for them
 

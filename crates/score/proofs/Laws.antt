@@ -23,19 +23,12 @@ use Rattle.group.specs.declared.Answer.the-variants.{Done}
 use Rattle.group.specs.declared.Answer.the-variants as Answer
 use Rattle.group.specs.State.{unused, opened, served, voting, stageNumber, askOf, inStage, atStage}
 use Rattle.group.specs.Answer.{turn, refusedTurn, cutTurn, stepped, changed}
-use Rattle.settle.proofs.Laws.{step-refused, step-cut, step-whole, kept-refused, kept-cut, changed-whole}
+use Rattle.group.proofs.Turns.{in-stage, not-in-stage, step-refused, step-cut, step-whole, kept-refused, kept-cut, changed-whole}
 use Rattle.score.specs.Desk.{nodeOf}
 use Rattle.score.specs.Steps.{fieldTests, cleared, opens}
 use Rattle.score.specs.Parts.{fieldRefusal, beginTests, writeTests, giveUpTests, abandonTests}
 
 -- ---- the kinds without a rule: s is the number of the slot's stage
-
-module _ (slot : Slot) (s : ℕ) (e : s ≡ stageNumber (slot .stage)) (k : ℕ) where
-  in-stage : s ≡ k → inStage slot k ≡ true
-  in-stage q = eq-eqb _ _ (sym e ∙ q)
-
-  pub not-in-stage : (s ≡ k → ⊥) → inStage slot k ≡ false
-  not-in-stage q = ne-eqb _ _ (λ z. q (e ∙ z))
 
 abbrev pub Begun : Bool → Slot → Counters → Step → List ℕ → List ℕ → Turn → List ℕ → List ℕ → Type 0
 Begun cut slot c x writes reads r writes′ reads′ =

@@ -33,7 +33,7 @@ fn ask(
     ensures { λ r. ⌜ r ≡ stepped (refusal (askTests slot (now (masks .entry)) (now (writes .entry)) t node cell)) cut slot origin 0 (askTurn slot origin (now (writes .entry)) t node cell) ⌝ }
 {
     let st = slot.stage;
-    if group::stage_number(st) != 1 {
+    if group::stage_number(st) != group::OPEN {
         return group::refused(19, slot, origin);
     }
     read::ask(cut, slot, origin, masks, writes, t, node, cell)

@@ -1,4 +1,4 @@
--- `group::fill::versions` meets its contract. The loop's invariant: the chains passed are filled.
+-- `fresh::fill::versions` meets its contract. The loop's invariant: the chains passed are filled.
 -- Assumes nothing.
 use mathlib.Core.Path.{_≡_, sym, ap₂, _∙_}
 use Prim.Native.Nat.{_≤_, _*_, _-_, _/_}
@@ -8,9 +8,9 @@ use Rattle.tables.specs.Table.{at, put}
 use Rattle.tables.specs.Pair.{pair}
 use Rattle.tables.specs.Loop.{each}
 use Rattle.tables.proofs.Loop.{each-none, each-next}
-use Rattle.group.specs.Fresh.{freshVersions}
-use Rattle.group.proofs.fill.versions.Statement.{statement}
-use Rattle.group.proofs.fill.versions.Tie as tie
+use Rattle.fresh.specs.Fresh.{freshVersions}
+use Rattle.fresh.proofs.fill.versions.Statement.{statement}
+use Rattle.fresh.proofs.fill.versions.Tie as tie
 
 abbrev Inv-loop : tie.InvT-loop
 Inv-loop values versions₀ i₀ versions i = (i ≤ 256) × (versions ≡ each 0 i (λ j. pair 8 j 0) (λ j e. at values (j / 8) 0) versions₀)

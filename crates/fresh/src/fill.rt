@@ -1,9 +1,9 @@
 // The parts of a fresh run. The long tables are filled where they lie, whatever they held before.
-use crate::Group;
-use crate::Slot;
-use crate::Snapshot;
-use crate::Stage;
 use counters::Counters;
+use group::Group;
+use group::Slot;
+use group::Snapshot;
+use group::Stage;
 ghost use mathlib.Core.Path.{_≡_};
 ghost use mathlib.Core.Bool.{cond};
 ghost use mathlib.Core.List.{map};
@@ -11,8 +11,8 @@ ghost use Prim.Native.Nat.{_/_, _%_};
 ghost use lib.ListN.{length, replicate};
 ghost use Rattle.tables.specs.Pair.{pair, word};
 ghost use Rattle.counters.specs.Counters.{zeroed};
 ghost use Rattle.group.specs.State.{holds, noSlot};
-ghost use Rattle.group.specs.Fresh.{freshLens, freshVersions};
+ghost use Rattle.fresh.specs.Fresh.{freshLens, freshVersions};
 
 // The small part and the flight table of a fresh run. Here, since beside the function `fresh` no type can have this name.
 pub struct Fresh {
@@ -61,7 +61,7 @@ pub(crate) fn slots() -> [Slot; 32]
 fn len(masks: &[u8; 32], i: u8) -> u8
     ensures { λ r. ⌜ r ≡ cond (holds (now (masks .entry)) (i % 8) (i / 8)) 1 0 ⌝ }
 {
-    if !crate::holds(masks, i % 8, i / 8) {
+    if !group::holds(masks, i % 8, i / 8) {
         return 0;
     }
     1

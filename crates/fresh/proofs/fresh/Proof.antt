@@ -1,9 +1,9 @@
--- `group::fresh` meets its contract, by what the parts ensure.
+-- `fresh::fresh` meets its contract, by what the parts ensure.
 -- Assumes nothing.
 use borrow.Author.Needs.{needs}
-use Rattle.group.specs.Fresh.{fresh}
-use Rattle.group.proofs.fresh.Statement.{statement}
-use Rattle.group.proofs.fresh.Tie as tie
+use Rattle.fresh.specs.Fresh.{fresh}
+use Rattle.fresh.proofs.fresh.Statement.{statement}
+use Rattle.fresh.proofs.fresh.Tie as tie
 
 lens-requires : tie.Need-lens-requires
 lens-requires c κs = search needs

@@ -1,4 +1,4 @@
--- `group::fill::lens` meets its contract. The loop's invariant: the places passed are filled.
+-- `fresh::fill::lens` meets its contract. The loop's invariant: the places passed are filled.
 -- Assumes nothing.
 use mathlib.Core.Path.{_≡_, sym, ap, _∙_}
 use mathlib.Core.Bool.{cond}
@@ -8,10 +8,10 @@ use borrow.Author.Needs.{needs}
 use Rattle.tables.specs.Table.{put}
 use Rattle.tables.specs.Loop.{each}
 use Rattle.tables.proofs.Loop.{each-none, each-next}
 use Rattle.group.specs.State.{holds}
-use Rattle.group.specs.Fresh.{freshLens}
-use Rattle.group.proofs.fill.lens.Statement.{statement}
-use Rattle.group.proofs.fill.lens.Tie as tie
+use Rattle.fresh.specs.Fresh.{freshLens}
+use Rattle.fresh.proofs.fill.lens.Statement.{statement}
+use Rattle.fresh.proofs.fill.lens.Tie as tie
 
 abbrev Inv-loop : tie.InvT-loop
 Inv-loop masks lens₀ i₀ lens i = (i ≤ 256) × (lens ≡ each 0 i (λ j. j) (λ j e. cond (holds masks (j % 8) (j / 8)) 1 0) lens₀)

@@ -1,8 +1,8 @@
--- `settle::cut_at` meets its contract, by what `counted` ensures.
+-- `group::cut_at` meets its contract, by what `counted` ensures.
 -- Assumes nothing.
 use borrow.Author.Needs.{needs}
-use Rattle.settle.proofs.cut_at.Statement.{statement}
-use Rattle.settle.proofs.cut_at.Tie as tie
+use Rattle.group.proofs.cut_at.Statement.{statement}
+use Rattle.group.proofs.cut_at.Tie as tie
 
 counted-requires : tie.Need-counted-requires
 counted-requires c κs = search needs

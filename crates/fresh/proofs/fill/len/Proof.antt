@@ -1,11 +1,11 @@
--- `group::fill::len` meets its contract, by what `holds` ensures.
+-- `fresh::fill::len` meets its contract, by what `holds` ensures.
 -- Assumes nothing.
 use mathlib.Core.Path.{sym, ap, _∙_}
 use mathlib.Core.Bool.{not}
 use borrow.Author.Needs.{needs}
 use Rattle.tables.proofs.Choice.{not-not}
-use Rattle.group.proofs.fill.len.Statement.{statement}
-use Rattle.group.proofs.fill.len.Tie as tie
+use Rattle.fresh.proofs.fill.len.Statement.{statement}
+use Rattle.fresh.proofs.fill.len.Tie as tie
 
 holds-requires : tie.Need-holds-requires
 holds-requires c κs = search needs

@@ -1,4 +1,4 @@
--- `group::fill::counters` meets its contract. The loop's invariant: the nodes passed have their counters.
+-- `fresh::fill::counters` meets its contract. The loop's invariant: the nodes passed have their counters.
 -- Assumes nothing.
 use mathlib.Core.Path.{_≡_, refl, sym, ap, _∙_}
 use Prim.Native.Nat.{_≤_, _-_}
@@ -9,8 +9,8 @@ use Rattle.tables.specs.Loop.{each}
 use Rattle.tables.proofs.Loop.{each-none, each-next}
 use Rattle.tables.proofs.Anew.{anew-map}
 use Rattle.counters.specs.Counters.{zeroed}
-use Rattle.group.proofs.fill.counters.Statement.{statement}
-use Rattle.group.proofs.fill.counters.Tie as tie
+use Rattle.fresh.proofs.fill.counters.Statement.{statement}
+use Rattle.fresh.proofs.fill.counters.Tie as tie
 
 abbrev Inv-loop : tie.InvT-loop
 Inv-loop given row₀ n₀ row n = (n ≤ 8) × (row ≡ each (zeroed 0) n (λ j. j) (λ j e. zeroed (at given j 0)) row₀)
