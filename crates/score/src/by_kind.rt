@@ -59,8 +59,8 @@ pub(crate) fn to_return(
     let cut = kinds::is_cut(x.kind);
     let k = kinds::whole(x.kind);
     match k {
-        1 => crate::plain::begin(cut, slot, c, x, writes, reads),
-        2 => crate::plain::write(cut, slot, c, x, writes),
+        1 => life::begin(cut, slot, c, x, writes, reads),
+        2 => life::write(cut, slot, c, x, writes),
         3 => ask(cut, slot, c, masks, writes, x.slot, x.node, x.cell),
         4 => read::serve(cut, slot, c, flight, writes, lens, versions),
         _ => read::hand(cut, slot, c, reads, x.slot),
@@ -104,7 +104,7 @@ pub(crate) fn to_give_up(
             x.node,
         ),
         8 => vote::decide(cut, slot, c, nodes, flight, t),
-        _ => crate::plain::give_up(cut, slot, c),
+        _ => life::give_up(cut, slot, c),
     }
 }
 
@@ -142,6 +142,6 @@ pub(crate) fn to_abandon(
             x.node,
         ),
         12 => settle::advance(cut, slot, c, flight, x.node),
-        _ => crate::plain::abandon(cut, slot, c),
+        _ => life::abandon(cut, slot, c),
     }
 }

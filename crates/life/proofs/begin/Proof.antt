@@ -1,9 +1,9 @@
--- `score::plain::begin` meets its contract: refused, cut, or whole.
+-- `life::begin` meets its contract: refused, cut, or whole.
 -- Assumes nothing.
 use borrow.Author.Needs.{needs}
-use Rattle.score.proofs.Laws.{begin-used, begin-valued, begin-cut, begin-whole}
-use Rattle.score.proofs.plain.begin.Statement.{statement}
-use Rattle.score.proofs.plain.begin.Tie as tie
+use Rattle.life.proofs.Laws.{begin-used, begin-valued, begin-cut, begin-whole}
+use Rattle.life.proofs.begin.Statement.{statement}
+use Rattle.life.proofs.begin.Tie as tie
 
 stage-number-requires : tie.Need-stage-number-requires
 stage-number-requires c κs = search needs

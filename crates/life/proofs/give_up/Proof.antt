@@ -1,9 +1,9 @@
--- `score::plain::give_up` meets its contract: refused, cut, or whole.
+-- `life::give_up` meets its contract: refused, cut, or whole.
 -- Assumes nothing.
 use borrow.Author.Needs.{needs}
-use Rattle.score.proofs.Laws.{give-up-cut, give-up-refused, give-up-whole}
-use Rattle.score.proofs.plain.give_up.Statement.{statement}
-use Rattle.score.proofs.plain.give_up.Tie as tie
+use Rattle.life.proofs.Laws.{give-up-cut, give-up-refused, give-up-whole}
+use Rattle.life.proofs.give_up.Statement.{statement}
+use Rattle.life.proofs.give_up.Tie as tie
 
 stage-number-requires : tie.Need-stage-number-requires
 stage-number-requires c κs = search needs

@@ -1,8 +1,8 @@
--- `score::plain::aborted` meets its contract, by what `at_stage` ensures.
+-- `life::aborted` meets its contract, by what `at_stage` ensures.
 -- Assumes nothing.
 use borrow.Author.Needs.{needs}
-use Rattle.score.proofs.plain.aborted.Statement.{statement}
-use Rattle.score.proofs.plain.aborted.Tie as tie
+use Rattle.life.proofs.aborted.Statement.{statement}
+use Rattle.life.proofs.aborted.Tie as tie
 
 at-stage-requires : tie.Need-at-stage-requires
 at-stage-requires c κs = search needs

@@ -1,8 +1,8 @@
--- `score::plain::running` meets its contract: the two ends of the range of stages.
+-- `life::running` meets its contract: the two ends of the range of stages.
 -- Assumes nothing.
 use borrow.Author.Tests.{le-leb, lt-leb}
-use Rattle.score.proofs.plain.running.Statement.{statement}
-use Rattle.score.proofs.plain.running.Tie as tie
+use Rattle.life.proofs.running.Statement.{statement}
+use Rattle.life.proofs.running.Tie as tie
 
 returns : tie.Need-returns
 returns c = rw (le-leb _ _ (c .if1 .taken))

@@ -1,9 +1,9 @@
--- `score::plain::write` meets its contract: refused, cut, or whole.
+-- `life::write` meets its contract: refused, cut, or whole.
 -- Assumes nothing.
 use borrow.Author.Needs.{needs}
-use Rattle.score.proofs.Laws.{write-not-open, write-no-update, write-cut, write-whole}
-use Rattle.score.proofs.plain.write.Statement.{statement}
-use Rattle.score.proofs.plain.write.Tie as tie
+use Rattle.life.proofs.Laws.{write-not-open, write-no-update, write-cut, write-whole}
+use Rattle.life.proofs.write.Statement.{statement}
+use Rattle.life.proofs.write.Tie as tie
 
 stage-number-requires : tie.Need-stage-number-requires
 stage-number-requires c κs = search needs

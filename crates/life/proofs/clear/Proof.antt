@@ -1,4 +1,4 @@
--- `score::plain::clear` meets its contract. The loop's invariant: the cells passed are cleared.
+-- `life::clear` meets its contract. The loop's invariant: the cells passed are cleared.
 -- Assumes nothing.
 use mathlib.Core.Path.{_≡_, sym, _∙_}
 use Prim.Native.Nat.{_≤_, _-_}
@@ -7,9 +7,9 @@ use borrow.Author.Needs.{needs}
 use Rattle.tables.specs.Pair.{pair}
 use Rattle.tables.specs.Loop.{each}
 use Rattle.tables.proofs.Loop.{each-none, each-next}
-use Rattle.score.specs.Steps.{cleared}
-use Rattle.score.proofs.plain.clear.Statement.{statement}
-use Rattle.score.proofs.plain.clear.Tie as tie
+use Rattle.life.specs.Life.{cleared}
+use Rattle.life.proofs.clear.Statement.{statement}
+use Rattle.life.proofs.clear.Tie as tie
 
 abbrev Inv-loop : tie.InvT-loop
 Inv-loop table₀ t cell₀ table cell = (cell ≤ 32) × (table ≡ each 0 cell (pair 32 t) (λ c e. 0) table₀)

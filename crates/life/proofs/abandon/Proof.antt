@@ -1,9 +1,9 @@
--- `score::plain::abandon` meets its contract: refused, cut, or whole.
+-- `life::abandon` meets its contract: refused, cut, or whole.
 -- Assumes nothing.
 use borrow.Author.Needs.{needs}
-use Rattle.score.proofs.Laws.{abandon-cut, abandon-refused, abandon-whole}
-use Rattle.score.proofs.plain.abandon.Statement.{statement}
-use Rattle.score.proofs.plain.abandon.Tie as tie
+use Rattle.life.proofs.Laws.{abandon-cut, abandon-refused, abandon-whole}
+use Rattle.life.proofs.abandon.Statement.{statement}
+use Rattle.life.proofs.abandon.Tie as tie
 
 stage-number-requires : tie.Need-stage-number-requires
 stage-number-requires c κs = search needs
