@@ -13,7 +13,8 @@ use Rattle.fresh.specs.Fresh.{freshLens, freshVersions, fresh}
 use Rattle.whole.specs.Whole.{masksSound, entrySound, flightSound, notesSound, placesSound, setsSound, slotSound, spread, empty, votingSound, committedSound, transactionSound, chainSound, chainsSound, pendingSound, whole}
 use Rattle.life.specs.Life.{beginTests, cleared, writeTests, giveUpTests, abandonTests}
 use Rattle.read.specs.Read.{askTests, askTurn, readAt, blocks, blocked, noteFor, serveTurn, returnTurn, returnReads}
-use Rattle.vote.specs.Vote.{commitTurn, sentTo, commitFlight, prepareTests, bars, conflict, outdated, full, reason, vote, refusedBy, lacking, decideTests, final, decideTurn}
+use Rattle.vote.specs.Vote.{prepareTests, bars, conflict, outdated, full, reason, vote}
+use Rattle.decide.specs.Decide.{commitTurn, sentTo, commitFlight, refusedBy, lacking, decideTests, final, decideTurn}
 use Rattle.settle.specs.Settle.{learnTests, learnTurn, learnFlight, least, stored, advanceTests}
 use Rattle.score.specs.Desk.{deskOf, putBack}
 use Rattle.score.specs.Steps.{needs, does, rise, cuts, act, stepWhole, stepOf}

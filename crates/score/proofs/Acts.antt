@@ -27,7 +27,8 @@ use Rattle.group.specs.Answer.{refusedTurn, stepped, changed}
 use Rattle.life.specs.Life.{beginTests, writeTests, giveUpTests, abandonTests}
 use Rattle.life.proofs.Laws.{Begun, Written, Ended}
 use Rattle.read.specs.Read.{askTests, askTurn, serveTests, readAt, serveTurn, returnTests, returnTurn, returnReads}
-use Rattle.vote.specs.Vote.{commitTests, commitTurn, commitFlight, prepareTests, voteRise, prepareTurn, prepareFlight, decideTests, decideTurn}
+use Rattle.vote.specs.Vote.{prepareTests, voteRise, prepareTurn, prepareFlight}
+use Rattle.decide.specs.Decide.{commitTests, commitTurn, commitFlight, decideTests, decideTurn}
 use Rattle.settle.specs.Settle.{learnTests, applyTests, advanceTests}
 use Rattle.score.specs.Desk.{Desk, desk, turned, withCounters}
 use Rattle.score.specs.Steps.{fieldTests, needs, voteOf, does, rise, cuts, judge, act}

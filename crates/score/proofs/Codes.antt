@@ -18,7 +18,8 @@ use Rattle.group.specs.Answer.{said}
 use Rattle.whole.specs.Whole.{whole}
 use Rattle.life.specs.Life.{beginTests, writeTests, giveUpTests, abandonTests}
 use Rattle.read.specs.Read.{askTests, askTurn, readAt, blocked, serveTurn, spoilt, returnTurn}
-use Rattle.vote.specs.Vote.{commitTurn, prepareTests, Vote, votes-yes, votes-no, prepareTurn, refusedBy, decideTests, decideTurn}
+use Rattle.vote.specs.Vote.{prepareTests, Vote, votes-yes, votes-no, prepareTurn}
+use Rattle.decide.specs.Decide.{commitTurn, refusedBy, decideTests, decideTurn}
 use Rattle.settle.specs.Settle.{learnTests, learnTurn, advanceTests}
 use Rattle.score.specs.Desk.{Desk, deskOf}
 use Rattle.score.specs.Steps.{fieldTests, needs, does, voteOf, cuts, judge, act, stepWhole, stepOf}

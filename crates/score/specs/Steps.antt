@@ -15,7 +15,8 @@ use Rattle.group.specs.State.{State, writer, askOf, noteOf, finalOf}
 use Rattle.whole.specs.Whole.{whole}
 use Rattle.life.specs.Life.{beginTests, beginTurn, cleared, writeTests, writeTurn, written, giveUpTests, abandonTests, endTurn}
 use Rattle.read.specs.Read.{askTests, askTurn, serveTests, readAt, serveTurn, returnTests, returnTurn, returnReads}
-use Rattle.vote.specs.Vote.{commitTests, commitTurn, commitFlight, prepareTests, Vote, vote, voteRise, prepareTurn, prepareFlight, decideTests, decideTurn}
+use Rattle.vote.specs.Vote.{prepareTests, Vote, vote, voteRise, prepareTurn, prepareFlight}
+use Rattle.decide.specs.Decide.{commitTests, commitTurn, commitFlight, decideTests, decideTurn}
 use Rattle.settle.specs.Settle.{learnTests, learnTurn, learnFlight, least, applyTests, applyTurn, applyChains, applyFlight, advanceTests, advanceTurn}
 use Rattle.score.specs.Desk.{Desk, deskOf, putBack, Outcome, turned, withFlight, withChains, withWrites, withReads, withCounters}
 

@@ -88,7 +88,7 @@ pub(crate) fn to_give_up(
     let k = kinds::whole(x.kind);
     let t = x.slot;
     match k {
-        6 => vote::commit(cut, slot, c, nodes, cells, masks, flight, writes, reads, t),
+        6 => decide::commit(cut, slot, c, nodes, cells, masks, flight, writes, reads, t),
         7 => vote::prepare(
             cut,
             slot,
@@ -103,7 +103,7 @@ pub(crate) fn to_give_up(
             t,
             x.node,
         ),
-        8 => vote::decide(cut, slot, c, nodes, flight, t),
+        8 => decide::decide(cut, slot, c, nodes, flight, t),
         _ => life::give_up(cut, slot, c),
     }
 }

@@ -27,7 +27,8 @@ use Rattle.group.specs.declared.Stage.the-variants.{Voting, Committed, Aborted}
 use Rattle.group.specs.declared.Answer.the-variants as Answer
 use Rattle.group.specs.Answer.{turn}
 use Rattle.group.specs.State.{State, votedNo, votedYes, toApply, finished, entered, writer, involved, committed, stageNumber, finalOf, inStage, atStage, slotAt, countersAt}
-use Rattle.vote.specs.Vote.{commitTurn, sentTo, commitFlight, prepareTests, reason, voteFor, vote, prepareTurn, prepareFlight, refusedBy, decideTests, final, decideTurn}
+use Rattle.vote.specs.Vote.{prepareTests, reason, voteFor, vote, prepareTurn, prepareFlight}
+use Rattle.decide.specs.Decide.{commitTurn, sentTo, commitFlight, refusedBy, decideTests, final, decideTurn}
 use Rattle.settle.specs.Settle.{learnTests, learnTurn, learnFlight, applied, applyChains, applyFlight}
 use Rattle.settle.specs.Settle as Settle
 use Rattle.life.specs.Life.{giveUpTests, abandonTests}

@@ -1,12 +1,12 @@
--- `vote::commit` meets its contract: each way out is a law of what the step comes to.
+-- `decide::commit` meets its contract: each way out is a law of what the step comes to.
 -- Assumes nothing.
 use mathlib.Core.Path.{refl, sym, _∙_}
 use borrow.Author.Tests.{eq-eqb, ne-eqb}
 use borrow.Author.Needs.{needs}
 use Rattle.tables.proofs.Tests.{Passed, Fails, here, accepted, refused}
-use Rattle.vote.specs.Vote.{commitTests, commitTurn, commitFlight}
-use Rattle.vote.proofs.commit.Statement.{statement}
-use Rattle.vote.proofs.commit.Tie as tie
+use Rattle.decide.specs.Decide.{commitTests, commitTurn, commitFlight}
+use Rattle.decide.proofs.commit.Statement.{statement}
+use Rattle.decide.proofs.commit.Tie as tie
 
 not-open : (c : tie.Then1) → Fails (commitTests (c .before .before .args .slot)) 19
 not-open c = here (ne-eqb _ _ (λ e. c .if1 .taken (c .before .stage-number .ensures ∙ e)))
@@ -23,11 +23,11 @@ refused-requires c κs = search needs
 returns : tie.Need-returns
 returns c = rw (refused (not-open (c .before))) (c .refused .ensures, refl)
 
-cut-at-requires : tie.Need-cut-at-requires
-cut-at-requires c κs = search needs
+cut-still-requires : tie.Need-cut-still-requires
+cut-still-requires c κs = search needs
 
 returns-2 : tie.Need-returns-2
-returns-2 c = rw (accepted _ (open-now (c .before .before)), c .before .if2 .taken) (c .cut-at .ensures, refl)
+returns-2 c = rw (accepted _ (open-now (c .before .before)), c .before .if2 .taken) (c .cut-still .ensures, refl)
 
 writer-requires : tie.Need-writer-requires
 writer-requires c κs = search needs
@@ -60,7 +60,7 @@ commit-spec =
     stage-number-requires
     refused-requires
     returns
-    cut-at-requires
+    cut-still-requires
     returns-2
     writer-requires
     send-requires

@@ -1,4 +1,4 @@
--- `vote::tagged` meets its contract. The loop's invariant: none of the nodes passed has the tag.
+-- `decide::tagged` meets its contract. The loop's invariant: none of the nodes passed has the tag.
 -- Assumes nothing.
 use mathlib.Core.Path.{_≡_, sym, _∙_}
 use mathlib.Core.Bool.{false}
@@ -10,8 +10,8 @@ use borrow.Author.Needs.{needs}
 use Rattle.tables.specs.Loop.{any}
 use Rattle.tables.proofs.Loop.{any-none, any-more, any-has, any-end}
 use Rattle.group.specs.State.{tagAt}
-use Rattle.vote.proofs.tagged.Statement.{statement}
-use Rattle.vote.proofs.tagged.Tie as tie
+use Rattle.decide.proofs.tagged.Statement.{statement}
+use Rattle.decide.proofs.tagged.Tie as tie
 
 abbrev Inv-loop : tie.InvT-loop
 Inv-loop nodes flight t tag n₀ n = (n ≤ nodes) × (any n (λ i. eqb (tagAt flight t i) tag) ≡ false)

@@ -1,4 +1,4 @@
--- `vote::decide` meets its contract: each way out is a law of what the step comes to.
+-- `decide::decide` meets its contract: each way out is a law of what the step comes to.
 -- Assumes nothing.
 use mathlib.Core.Path.{_≡_, sym, ap₂, _∙_}
 use mathlib.Core.Bool.{Bool, true, not, _||_}
@@ -6,9 +6,9 @@ use borrow.Author.Tests.{eq-eqb, ne-eqb, not-true, not-false}
 use borrow.Author.Needs.{needs}
 use Rattle.tables.proofs.Tests.{Passed, Fails, here, later, accepted, refused}
 use Rattle.group.specs.State.{inStage, voting}
-use Rattle.vote.specs.Vote.{decideTests, refusedBy, lacking, decideTurn}
-use Rattle.vote.proofs.decide.Statement.{statement}
-use Rattle.vote.proofs.decide.Tie as tie
+use Rattle.decide.specs.Decide.{decideTests, refusedBy, lacking, decideTurn}
+use Rattle.decide.proofs.decide.Statement.{statement}
+use Rattle.decide.proofs.decide.Tie as tie
 
 voting-now : (c : tie.Else1) → inStage (c .before .before .args .slot) voting ≡ true
 voting-now c = eq-eqb _ _ (sym (c .before .stage-number .ensures) ∙ c .if1 .left)
@@ -55,11 +55,11 @@ refused-requires-2 c κs = search needs
 returns-2 : tie.Need-returns-2
 returns-2 c = rw (refused (not-ready (c .before))) (c .refused2 .ensures)
 
-cut-at-requires : tie.Need-cut-at-requires
-cut-at-requires c κs = search needs
+cut-still-requires : tie.Need-cut-still-requires
+cut-still-requires c κs = search needs
 
 returns-3 : tie.Need-returns-3
-returns-3 c = rw (accepted _ (ready-now (c .before .before)), c .before .if3 .taken) (c .cut-at .ensures)
+returns-3 c = rw (accepted _ (ready-now (c .before .before)), c .before .if3 .taken) (c .cut-still .ensures)
 
 at-stage-requires : tie.Need-at-stage-requires
 at-stage-requires c κs = search needs
@@ -94,7 +94,7 @@ decide-spec =
     ready-requires
     refused-requires-2
     returns-2
-    cut-at-requires
+    cut-still-requires
     returns-3
     at-stage-requires
     returns-4

@@ -1,10 +1,10 @@
--- `vote::send_to` meets its contract: one place is put, or what stands there is left.
+-- `decide::send_to` meets its contract: one place is put, or what stands there is left.
 -- Assumes nothing.
 use mathlib.Core.Path.{sym}
 use borrow.Author.Needs.{needs}
 use Rattle.tables.proofs.Table.{put-at}
-use Rattle.vote.proofs.send_to.Statement.{statement}
-use Rattle.vote.proofs.send_to.Tie as tie
+use Rattle.decide.proofs.send_to.Statement.{statement}
+use Rattle.decide.proofs.send_to.Tie as tie
 
 involved-requires : tie.Need-involved-requires
 involved-requires c κs = search needs

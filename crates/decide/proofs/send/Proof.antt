@@ -1,13 +1,13 @@
--- `vote::send` meets its contract. The loop's invariant: the nodes passed have been sent to.
+-- `decide::send` meets its contract. The loop's invariant: the nodes passed have been sent to.
 -- Assumes nothing.
 use mathlib.Core.Path.{_≡_, sym, _∙_}
 use Prim.Native.Nat.{_≤_, _-_}
 use native.Mathlib.Omega.{arith}
 use borrow.Author.Needs.{needs}
 use Rattle.tables.proofs.Loop.{each-none, each-next}
-use Rattle.vote.specs.Vote.{sentTo}
-use Rattle.vote.proofs.send.Statement.{statement}
-use Rattle.vote.proofs.send.Tie as tie
+use Rattle.decide.specs.Decide.{sentTo}
+use Rattle.decide.proofs.send.Statement.{statement}
+use Rattle.decide.proofs.send.Tie as tie
 
 abbrev Inv-loop : tie.InvT-loop
 Inv-loop nodes cells masks flight₀ writes reads t n₀ flight n = (n ≤ nodes) × (flight ≡ sentTo n cells masks flight₀ writes reads t)

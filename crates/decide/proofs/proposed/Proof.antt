@@ -1,10 +1,10 @@
--- `vote::proposed` meets its contract: the number of a yes vote counts.
+-- `decide::proposed` meets its contract: the number of a yes vote counts.
 -- Assumes nothing.
 use mathlib.Core.Path.{sym, _∙_}
 use borrow.Author.Tests.{eq-eqb, ne-eqb}
 use borrow.Author.Needs.{needs}
-use Rattle.vote.proofs.proposed.Statement.{statement}
-use Rattle.vote.proofs.proposed.Tie as tie
+use Rattle.decide.proofs.proposed.Statement.{statement}
+use Rattle.decide.proofs.proposed.Tie as tie
 
 tag-requires : tie.Need-tag-requires
 tag-requires c κs = search needs

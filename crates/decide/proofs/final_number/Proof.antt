@@ -1,13 +1,13 @@
--- `vote::final_number` meets its contract. The loop's invariant: the largest proposal of the nodes passed.
+-- `decide::final_number` meets its contract. The loop's invariant: the largest proposal of the nodes passed.
 -- Assumes nothing.
 use mathlib.Core.Path.{_≡_, sym, _∙_}
 use Prim.Native.Nat.{_≤_, _-_}
 use native.Mathlib.Omega.{arith}
 use borrow.Author.Needs.{needs}
 use Rattle.tables.proofs.Loop.{largest-none, largest-next}
-use Rattle.vote.specs.Vote.{final}
-use Rattle.vote.proofs.final_number.Statement.{statement}
-use Rattle.vote.proofs.final_number.Tie as tie
+use Rattle.decide.specs.Decide.{final}
+use Rattle.decide.proofs.final_number.Statement.{statement}
+use Rattle.decide.proofs.final_number.Tie as tie
 
 abbrev Inv-loop : tie.InvT-loop
 Inv-loop nodes flight t best₀ n₀ best n = (n ≤ nodes) × (best ≡ final n flight t)
