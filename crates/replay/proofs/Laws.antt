@@ -17,7 +17,7 @@ use Rattle.text.specs.Text.{lineOf}
 use Rattle.text.proofs.Laws.{line-size, Wrote, after-in}
 use Rattle.runfile.specs.Head.{firsts}
 use Rattle.runfile.specs.Parts.{stepIn}
-use Rattle.runfile.proofs.Reading.{firsts-next, firsts-size}
+use Rattle.runfile.proofs.Rows.{firsts-next, firsts-size}
 use Rattle.replay.specs.Replay.{lineFor, linesFrom}
 use Rattle.replay.specs.Lines.{stateAfter, stepsTo, linesTo, shown}
 
