@@ -20,12 +20,14 @@ use Rattle.number.specs.Proposal.{upToTop, next, proposal}
 use Rattle.kinds.specs.Kinds.{usesOf, named}
 use Rattle.chain.specs.Chain.{lenAt, size, versionAt, newest, latest, hasRoom, added}
 use Rattle.group.specs.State.{unfinished, holds, has, writer, involved}
-use Rattle.group.specs.Fresh.{freshLens, freshVersions, fresh}
+use Rattle.fresh.specs.Fresh.{freshLens, freshVersions, fresh}
+use Rattle.life.specs.Life.{beginTests, cleared, writeTests, giveUpTests, abandonTests}
 use Rattle.read.specs.Read.{askTests, askTurn, readAt, blocks, blocked, noteFor, serveTurn, returnTurn, returnReads}
-use Rattle.vote.specs.Vote.{commitTurn, sentTo, commitFlight, prepareTests, bars, conflict, outdated, full, reason, vote, refusedBy, lacking, decideTests, final, decideTurn}
+use Rattle.vote.specs.Vote.{prepareTests, bars, conflict, outdated, full, reason, vote}
+use Rattle.decide.specs.Decide.{commitTurn, sentTo, commitFlight, refusedBy, lacking, decideTests, final, decideTurn}
 use Rattle.settle.specs.Settle.{learnTests, learnTurn, learnFlight, least, stored, advanceTests}
 use Rattle.score.specs.Desk.{deskOf, putBack}
-use Rattle.score.specs.Steps.{needs, cleared, does, rise, cuts, act, stepWhole}
+use Rattle.score.specs.Steps.{needs, does, rise, cuts, act, stepWhole}
 use Rattle.serial.specs.Serial.{Sound, Steps32, Handed, Run, runOf, isWriter, insert, writers, copyAfter, Serial}
 use Rattle.serial.proofs.Never.{innerRun, inner-run}
 use Rattle.serial.proofs.Theorem.{serial}
@@ -46,7 +48,7 @@ record Computed (r : Run) : Type 0 where
   settled : Settled r 0 0 × Settled r 1 0 × Settled r 1 1
 
 computed : Computed (innerRun begun steps)
-unfolding at put any every turns largest lastAt lesser leastAt each refusal upToTop next proposal usesOf named lenAt size versionAt newest latest hasRoom added unfinished writer involved freshLens freshVersions fresh askTests askTurn readAt blocks blocked noteFor serveTurn returnTurn returnReads commitTurn sentTo commitFlight prepareTests bars conflict outdated full reason vote refusedBy lacking decideTests final decideTurn learnTests learnTurn learnFlight least stored advanceTests deskOf putBack needs cleared does rise cuts act stepWhole isWriter insert writers copyAfter innerRun summaryOf
+unfolding at put any every turns largest lastAt lesser leastAt each refusal upToTop next proposal usesOf named lenAt size versionAt newest latest hasRoom added unfinished writer involved freshLens freshVersions fresh beginTests cleared writeTests giveUpTests abandonTests askTests askTurn readAt blocks blocked noteFor serveTurn returnTurn returnReads commitTurn sentTo commitFlight prepareTests bars conflict outdated full reason vote refusedBy lacking decideTests final decideTurn learnTests learnTurn learnFlight least stored advanceTests deskOf putBack needs does rise cuts act stepWhole isWriter insert writers copyAfter innerRun summaryOf
 computed = record { summed = refl; writer-0 = refl; writer-2 = refl; holders = (refl, refl, refl); settled = (refl, refl, refl) }
 
 -- ---- the group is sound, and the steps' values have 32 bits

@@ -9,13 +9,15 @@ use Rattle.number.specs.Proposal.{upToTop, next, proposal}
 use Rattle.kinds.specs.Kinds.{usesOf, named}
 use Rattle.chain.specs.Chain.{lenAt, size, versionAt, newest, latest, hasRoom, added}
 use Rattle.group.specs.State.{unfinished, writer, involved}
-use Rattle.group.specs.Fresh.{freshLens, freshVersions, fresh}
+use Rattle.fresh.specs.Fresh.{freshLens, freshVersions, fresh}
 use Rattle.whole.specs.Whole.{masksSound, entrySound, flightSound, notesSound, placesSound, setsSound, slotSound, spread, empty, votingSound, committedSound, transactionSound, chainSound, chainsSound, pendingSound, whole}
+use Rattle.life.specs.Life.{beginTests, cleared, writeTests, giveUpTests, abandonTests}
 use Rattle.read.specs.Read.{askTests, askTurn, readAt, blocks, blocked, noteFor, serveTurn, returnTurn, returnReads}
-use Rattle.vote.specs.Vote.{commitTurn, sentTo, commitFlight, prepareTests, bars, conflict, outdated, full, reason, vote, refusedBy, lacking, decideTests, final, decideTurn}
+use Rattle.vote.specs.Vote.{prepareTests, bars, conflict, outdated, full, reason, vote}
+use Rattle.decide.specs.Decide.{commitTurn, sentTo, commitFlight, refusedBy, lacking, decideTests, final, decideTurn}
 use Rattle.settle.specs.Settle.{learnTests, learnTurn, learnFlight, least, stored, advanceTests}
 use Rattle.score.specs.Desk.{deskOf, putBack}
-use Rattle.score.specs.Steps.{needs, cleared, does, rise, cuts, act, stepWhole, stepOf}
+use Rattle.score.specs.Steps.{needs, does, rise, cuts, act, stepWhole, stepOf}
 use Rattle.runfile.proofs.Examples.{nothing-there, no-nodes, nine-nodes}
 use Rattle.claims.specs.Runs.{answers, replies}
 use Rattle.claims.specs.Example.{AllHold, Holds}
@@ -24,7 +26,7 @@ use Rattle.claims.specs.Pinned.{crammed, pinned}
 
 -- all that is computed with, opened under one name
 definitions : Unit {0}
-unfolding at put any every turns largest lastAt lesser leastAt each refusal upToTop next proposal usesOf named lenAt size versionAt newest latest hasRoom added unfinished writer involved freshLens freshVersions fresh askTests askTurn readAt blocks blocked noteFor serveTurn returnTurn returnReads commitTurn sentTo commitFlight prepareTests bars conflict outdated full reason vote refusedBy lacking decideTests final decideTurn learnTests learnTurn learnFlight least stored advanceTests deskOf putBack needs cleared does rise cuts act stepWhole stepOf masksSound entrySound flightSound notesSound placesSound setsSound slotSound spread empty votingSound committedSound transactionSound chainSound chainsSound pendingSound whole answers replies
+unfolding at put any every turns largest lastAt lesser leastAt each refusal upToTop next proposal usesOf named lenAt size versionAt newest latest hasRoom added unfinished writer involved freshLens freshVersions fresh beginTests cleared writeTests giveUpTests abandonTests askTests askTurn readAt blocks blocked noteFor serveTurn returnTurn returnReads commitTurn sentTo commitFlight prepareTests bars conflict outdated full reason vote refusedBy lacking decideTests final decideTurn learnTests learnTurn learnFlight least stored advanceTests deskOf putBack needs does rise cuts act stepWhole stepOf masksSound entrySound flightSound notesSound placesSound setsSound slotSound spread empty votingSound committedSound transactionSound chainSound chainsSound pendingSound whole answers replies
 definitions = tt
 
 -- one by one, since what one declaration may compute is bounded

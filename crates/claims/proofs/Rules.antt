@@ -19,9 +19,11 @@ use Rattle.group.specs.State.{holds, votedYes, tagAt, numberAt, unfinished, not
 use Rattle.group.specs.Answer.{said}
 use Rattle.read.specs.Read.{serveTurn, returnTurn}
 use Rattle.read.proofs.Reasons as Read
-use Rattle.vote.specs.Vote.{prepareTests, Vote, votes-yes, votes-no, vote, prepareTurn, final}
+use Rattle.vote.specs.Vote.{prepareTests, Vote, votes-yes, votes-no, vote, prepareTurn}
 use Rattle.vote.proofs.Reasons.{Apart}
 use Rattle.vote.proofs.Reasons as Voting
+use Rattle.decide.specs.Decide.{final}
+use Rattle.decide.proofs.Reasons as Deciding
 use Rattle.settle.specs.Settle.{learnTurn, learnFlight, least, applyTests, applyTurn, applyFlight, advanceTests}
 use Rattle.settle.proofs.Reasons.{First}
 use Rattle.settle.proofs.Reasons as Settling
@@ -90,7 +92,7 @@ module _ (slot : Slot) (c : Counters) (cells : ℕ) (masks flight : List ℕ) (c
 
 -- The final number is no less than any proposal.
 pub final-most : (nodes : ℕ) (flight : List ℕ) (t n : ℕ) → n < nodes → tagAt flight t n ≡ votedYes → numberAt flight t n ≤ final nodes flight t
-final-most = Voting.final-most
+final-most = Deciding.final-most
 
 -- ---- rule D
 

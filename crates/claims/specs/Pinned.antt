@@ -10,7 +10,7 @@ use Rattle.group.specs.declared.Snapshot.the-variants.{Fixed}
 use Rattle.group.specs.declared.Stage.the-variants.{Served}
 use Rattle.group.specs.State.{State}
 use Rattle.group.specs.Answer.{Said, says}
-use Rattle.group.specs.Fresh.{fresh}
+use Rattle.fresh.specs.Fresh.{fresh}
 use Rattle.claims.specs.Runs.{st}
 use Rattle.claims.specs.Example.{Example, runs, inner, leaves}
 

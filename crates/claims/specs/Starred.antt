@@ -5,7 +5,7 @@ use mathlib.Core.Option.{none, some}
 use Prim.Native.Nat.{ℕ}
 use Rattle.group.specs.State.{State}
 use Rattle.group.specs.Answer.{says}
-use Rattle.group.specs.Fresh.{fresh}
+use Rattle.fresh.specs.Fresh.{fresh}
 use Rattle.claims.specs.Runs.{st}
 use Rattle.claims.specs.Example.{Example, faults, proposes, runs}
 

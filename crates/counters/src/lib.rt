@@ -11,7 +11,7 @@ pub struct Counters {
 }
 
 // What stands is kept where a step brings a smaller number.
-fn larger(a: u32, b: u32) -> u32
+pub fn larger(a: u32, b: u32) -> u32
     ensures { λ r. ⌜ r ≡ max a b ⌝ }
 {
     if a < b { b } else { a }

@@ -1,18 +1,42 @@
 // The state of a group: its small typed part, which goes by value, and five long tables, which the caller lends and which are changed
 // where they lie. The functions here are for callers that know their places to be in range: whoever takes a state or a step from outside has tested that.
-mod fill;
-
-pub use crate::fill::Fresh;
 use counters::Counters;
 ghost use mathlib.Core.Path.{_≡_};
 ghost use Prim.Native.Nat.{_/_, _%_, _^_, _≤_, _<_};
 ghost use lib.Dec.{eqb};
 ghost use Rattle.tables.specs.Table.{at, put};
 ghost use Rattle.tables.specs.Pair.{pair};
-ghost use Rattle.chain.specs.Chain.{chains};
-ghost use Rattle.group.specs.State.{holds as isHolder, tagAt, numberAt, entered, unfinished as isUnfinished, noted as notedAt, has as hasNote, writer as isWriter, involved as isInvolved, touched, stageNumber, noAsk, askOf, noNote, noteOf, finalOf, snapshotOf, isFixed, atStage, stateOf};
-ghost use Rattle.group.specs.Answer.{refusedTurn};
-ghost use Rattle.group.specs.Fresh.{fresh as isFresh};
+ghost use Rattle.group.specs.State.{holds as isHolder, tagAt, numberAt, entered, unfinished as isUnfinished, noted as notedAt, has as hasNote, writer as isWriter, involved as isInvolved, touched, stageNumber, noAsk, askOf, noNote, noteOf, finalOf, snapshotOf, isFixed, atStage};
+ghost use Rattle.group.specs.Answer.{turn, refusedTurn, cutTurn};
+ghost use Rattle.group.specs.declared.Answer.the-variants.{Done as IsDone};
+
+// The stages by number.
+pub const UNUSED: u8 = 0;
+
+pub const OPEN: u8 = 1;
+
+pub const ASKING: u8 = 2;
+
+pub const SERVED: u8 = 3;
+
+pub const VOTING: u8 = 4;
+
+pub const COMMITTED: u8 = 5;
+
+pub const ABORTED: u8 = 6;
+
+// The tags of flight entries.
+pub const IDLE: u32 = 0;
+
+pub const SENT: u32 = 1;
+
+pub const VOTED_NO: u32 = 2;
+
+pub const VOTED_YES: u32 = 3;
+
+pub const TO_APPLY: u32 = 4;
+
+pub const FINISHED: u32 = 5;
 
 // A transaction's snapshot is fixed by its first read.
 pub enum Snapshot {
@@ -93,19 +117,52 @@ pub fn refused(code: u32, slot: Slot, counters: Counters) -> Turn
     }
 }
 
+pub fn done(k: u32, slot: Slot, counters: Counters) -> Turn
+    ensures { λ r. ⌜ r ≡ turn (IsDone k) slot counters ⌝ }
+{
+    Turn {
+        answer: Answer::Done(k),
+        slot,
+        counters,
+    }
+}
+
+// The step cut by power loss: the counter rises to k at least, and nothing else changes.
+pub fn cut_at(k: u32, slot: Slot, c: Counters) -> Turn
+    ensures { λ r. ⌜ r ≡ cutTurn slot c k ⌝ }
+{
+    let counters = counters::counted(c, k);
+    Turn {
+        answer: Answer::Cut,
+        slot,
+        counters,
+    }
+}
+
+// The same of a step that moves no counter: one that is to rise to 0 at least stands as it is.
+pub fn cut_still(slot: Slot, c: Counters) -> Turn
+    ensures { λ r. ⌜ r ≡ cutTurn slot c 0 ⌝ }
+{
+    Turn {
+        answer: Answer::Cut,
+        slot,
+        counters: c,
+    }
+}
+
 // ---- slots
 
 pub fn stage_number(st: Stage) -> u8
     ensures { λ r. ⌜ r ≡ stageNumber st ⌝ }
 {
     match st {
-        Stage::Unused => 0,
-        Stage::Open => 1,
-        Stage::Asking(_) => 2,
-        Stage::Served(_) => 3,
-        Stage::Voting => 4,
-        Stage::Committed(_) => 5,
-        Stage::Aborted => 6,
+        Stage::Unused => UNUSED,
+        Stage::Open => OPEN,
+        Stage::Asking(_) => ASKING,
+        Stage::Served(_) => SERVED,
+        Stage::Voting => VOTING,
+        Stage::Committed(_) => COMMITTED,
+        Stage::Aborted => ABORTED,
     }
 }
 
@@ -255,7 +312,7 @@ pub fn unfinished(flight: &[u64; 256], slot: u8, node: u8) -> bool
     ensures { λ r. ⌜ r ≡ isUnfinished (now (flight .entry)) slot node ⌝ }
 {
     let k = tag(flight, slot, node);
-    3 <= k && k <= 4
+    VOTED_YES <= k && k <= TO_APPLY
 }
 
 // ---- what a transaction wrote and read
@@ -328,38 +385,4 @@ pub fn involved(
         c = c + 1;
     }
     false
-}
-
-// ---- a fresh run
-
-// The state before the first step, from what the file brings: any counts, any bytes, and any tables, which are filled anew.
-pub fn fresh(
-    nodes: u8,
-    cells: u8,
-    counters: &[u32; 8],
-    masks: &[u8; 32],
-    values: &[u32; 32],
-    lens: &mut [u8; 256],
-    versions: &mut [u64; 2048],
-    writes: &mut [u64; 1024],
-    reads: &mut [u64; 1024],
-) -> Fresh
-    ensures { λ r. ⌜ stateOf (r .group) (r .flight) (chains (now (lens .exit)) (now (versions .exit))) (now (writes .exit)) (now (reads .exit)) ≡ isFresh nodes cells (now (counters .entry)) (now (masks .entry)) (now (values .entry)) ⌝ }
-{
-    fill::lens(masks, lens);
-    fill::versions(values, versions);
-    *writes = [0; 1024];
-    *reads = [0; 1024];
-    let counters = fill::counters(counters);
-    let masks = *masks;
-    let slots = fill::slots();
-    let group = Group {
-        nodes,
-        cells,
-        counters,
-        masks,
-        slots,
-    };
-    let flight = [0; 256];
-    Fresh { group, flight }
 }

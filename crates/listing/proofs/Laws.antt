@@ -18,7 +18,7 @@ use Rattle.text.proofs.Lines.{line-size}
 use Rattle.text.proofs.Placed.{Wrote, after-in}
 use Rattle.runfile.specs.Head.{firsts}
 use Rattle.runfile.specs.Parts.{stepIn}
-use Rattle.runfile.proofs.Reading.{firsts-next, firsts-size}
+use Rattle.runfile.proofs.Rows.{firsts-next, firsts-size}
 use Rattle.listing.specs.Listing.{lineFor, linesFrom}
 use Rattle.listing.specs.Going.{stateAfter, stepsTo, linesTo, shown}
 

@@ -7,7 +7,7 @@ use Rattle.kinds.specs.declared.Step.{Step}
 use Rattle.group.specs.declared.Answer.{Answer}
 use Rattle.group.specs.State.{State}
 use Rattle.group.specs.Answer.{said}
-use Rattle.group.specs.Fresh.{fresh}
+use Rattle.fresh.specs.Fresh.{fresh}
 use Rattle.score.specs.Steps.{stepOf}
 use Rattle.runfile.specs.declared.Head.{Head}
 

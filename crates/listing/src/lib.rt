@@ -148,7 +148,7 @@ pub fn walk(h: Head, part: &[u8], out: &mut [u8], start: usize, write: bool) -> 
     let mut versions = [0u64; 2048];
     let mut writes = [0u64; 1024];
     let mut reads = [0u64; 1024];
-    let start_of = group::fresh(
+    let start_of = fresh::fresh(
         h.nodes,
         h.cells,
         &counters,

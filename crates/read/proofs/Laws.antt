@@ -1,47 +1,22 @@
--- Laws of steps: what any step comes to, and the table that it changes, where its tests fail, where it is cut, and where it is whole; and
--- the two outcomes of a serve, and of a return.
+-- Laws of the definitions in `specs/`: the two outcomes of a serve, and of a return.
 -- Assumes nothing.
 use mathlib.Core.Path.{_≡_}
-use mathlib.Core.Bool.{Bool, true, false}
+use mathlib.Core.Bool.{true, false}
 use mathlib.Core.List.{List}
 use Prim.Native.Nat.{ℕ, _+_}
 use Rattle.tables.specs.Table.{put}
 use Rattle.tables.specs.Pair.{pair}
-use Rattle.tables.specs.Tests.{refusal}
-use Rattle.tables.proofs.Tests.{Passed, Fails, accepted, refused}
 use Rattle.chain.specs.Chain.{Chains}
 use Rattle.counters.specs.Counters.{risenTo}
 use Rattle.counters.specs.declared.Counters.{Counters}
 use Rattle.group.specs.declared.Slot.{Slot}
-use Rattle.group.specs.declared.Turn.{Turn}
 use Rattle.group.specs.declared.Stage.the-variants.{Open, Asking, Served, Aborted}
 use Rattle.group.specs.declared.Snapshot.the-variants.{Fixed}
 use Rattle.group.specs.declared.Answer.the-variants.{Done, Value, Wait}
 use Rattle.group.specs.declared.Answer.the-variants as Answer
 use Rattle.group.specs.State.{askOf, noteOf, atStage}
-use Rattle.group.specs.Answer.{turn, refusedTurn, cutTurn, stepped, changed}
+use Rattle.group.specs.Answer.{turn}
 use Rattle.read.specs.Read.{readAt, blocked, noteFor, waitFor, serveTurn, spoilt, returnTurn, returnReads}
-
-module _ (ts : List (Bool × ℕ)) where
-  module _ (cut : Bool) (x : Slot) (c : Counters) (k : ℕ) (t : Turn) where
-    pub stepped-refused : {code : ℕ} → Fails ts code → stepped (refusal ts) cut x c k t ≡ refusedTurn code x c
-    stepped-refused f = rw (refused f)
-
-    pub stepped-cut : Passed ts → cut ≡ true → stepped (refusal ts) cut x c k t ≡ cutTurn x c k
-    stepped-cut p e = rw (accepted ts p, e)
-
-    pub stepped-whole : Passed ts → cut ≡ false → stepped (refusal ts) cut x c k t ≡ t
-    stepped-whole p e = rw (accepted ts p, e)
-
-  module _ (cut : Bool) (old new : List ℕ) where
-    pub changed-refused : {code : ℕ} → Fails ts code → changed (refusal ts) cut old new ≡ old
-    changed-refused f = rw (refused f)
-
-    pub changed-cut : Passed ts → cut ≡ true → changed (refusal ts) cut old new ≡ old
-    changed-cut p e = rw (accepted ts p, e)
-
-    pub changed-whole : Passed ts → cut ≡ false → changed (refusal ts) cut old new ≡ new
-    changed-whole p e = rw (accepted ts p, e)
 
 -- ---- rule A
 

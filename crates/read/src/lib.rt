@@ -11,12 +11,12 @@ use group::Stage;
 use group::Turn;
 ghost use mathlib.Core.Path.{_≡_};
 ghost use mathlib.Core.Bool.{not, _&&_, _||_};
-ghost use Prim.Native.Nat.{_≤_, _<_, max};
+ghost use Prim.Native.Nat.{_≤_, _<_};
 ghost use lib.Dec.{eqb};
 ghost use Rattle.tables.specs.Tests.{refusal};
 ghost use Rattle.chain.specs.Chain.{resultOf, chains};
 ghost use Rattle.group.specs.State.{holds, noted, has, askOf, noteOf, inStage};
-ghost use Rattle.group.specs.Answer.{cutTurn, stepped, changed};
+ghost use Rattle.group.specs.Answer.{stepped, changed};
 ghost use Rattle.read.specs.Read.{askTests, askFor, askTurn, serveTests, readAt, blocks as isBar, blocked as isBlocked, valueOf, noteFor, waitFor, serveTurn, returnTests, returnTurn, returnReads};
 
 fn in_stage(slot: Slot, k: u8) -> bool
@@ -24,18 +24,6 @@ fn in_stage(slot: Slot, k: u8) -> bool
 {
     let st = slot.stage;
     group::stage_number(st) == k
-}
-
-// A cut step: the counter rises to k at least, and nothing else moves.
-fn cut_at(slot: Slot, c: Counters, k: u32) -> Turn
-    ensures { λ r. ⌜ r ≡ cutTurn slot c k ⌝ }
-{
-    let counters = counters::counted(c, k);
-    Turn {
-        answer: Answer::Cut,
-        slot,
-        counters,
-    }
 }
 
 // ---- step 3, ask
@@ -112,7 +100,7 @@ pub fn ask(
     requires { ⌜ (t < 32) × (node < 8) × (cell < 32) × (slot .origin < 8) × (noted (now writes) t cell ≤ 4294967296) ⌝ }
     ensures { λ r. ⌜ r ≡ stepped (refusal (askTests slot (now (masks .entry)) (now (writes .entry)) t node cell)) cut slot origin 0 (askTurn slot origin (now (writes .entry)) t node cell) ⌝ }
 {
-    let open = in_stage(slot, 1);
+    let open = in_stage(slot, group::OPEN);
     let allowed = may_ask(masks, writes, t, slot.origin, node, cell);
     if !open {
         return group::refused(19, slot, origin); // the stage comes first
@@ -121,18 +109,12 @@ pub fn ask(
         return group::refused(22, slot, origin);
     }
     if cut {
-        return cut_at(slot, origin, 0);
+        return group::cut_at(0, slot, origin);
     }
     asked(slot, origin, writes, t, node, cell)
 }
 
 // ---- step 4, serve
-
-fn larger(a: u32, b: u32) -> u32
-    ensures { λ r. ⌜ r ≡ max a b ⌝ }
-{
-    if a < b { b } else { a }
-}
 
 // Rule A: the read's s is what is carried where that is settled; else, at the first serve of a first read, the larger of it and the
 // holder's commit number.
@@ -142,7 +124,7 @@ fn read_at(a: group::Ask, holder: Counters) -> u32
     if a.exact {
         return a.carried;
     }
-    larger(a.carried, holder.commit)
+    counters::larger(a.carried, holder.commit)
 }
 
 // Rule A: transaction u has an unfinished entry here that writes the cell, with a number at or below s.
@@ -220,14 +202,14 @@ pub fn serve(
     requires { ⌜ (askOf (slot .stage) .node < 8) × (askOf (slot .stage) .cell < 32) ⌝ }
     ensures { λ r. ⌜ r ≡ stepped (refusal (serveTests slot)) cut slot holder (readAt (askOf (slot .stage)) holder) (serveTurn slot holder (now (flight .entry)) (now (writes .entry)) (chains (now (lens .entry)) (now (versions .entry)))) ⌝ }
 {
-    if !in_stage(slot, 2) {
+    if !in_stage(slot, group::ASKING) {
         return group::refused(19, slot, holder);
     }
     let st = slot.stage;
     let a = group::ask_of(st);
     let s = read_at(a, holder);
     if cut {
-        return cut_at(slot, holder, s);
+        return group::cut_at(s, slot, holder);
     }
     let counters = counters::risen(holder, s);
     if blocked(flight, writes, a.node, a.cell, s) {
@@ -263,13 +245,13 @@ pub fn hand(cut: bool, slot: Slot, origin: Counters, reads: &mut [u64; 1024], t:
     requires { ⌜ (t < 32) × (noteOf (slot .stage) .cell < 32) ⌝ }
     ensures { λ r. ⌜ (r ≡ stepped (refusal (returnTests slot)) cut slot origin (noteOf (slot .stage) .s) (returnTurn slot origin)) × (now (reads .exit) ≡ changed (refusal (returnTests slot)) cut (now (reads .entry)) (returnReads slot (now (reads .entry)) t)) ⌝ }
 {
-    if !in_stage(slot, 3) {
+    if !in_stage(slot, group::SERVED) {
         return group::refused(19, slot, origin);
     }
     let st = slot.stage;
     let v = group::note_of(st);
     if cut {
-        return cut_at(slot, origin, v.s);
+        return group::cut_at(v.s, slot, origin);
     }
     let counters = counters::risen(origin, v.s);
     if spoilt(slot.update, v.stale) {

@@ -23,8 +23,9 @@ use Rattle.runfile.specs.File.{File, joined, stepBytes, fieldsSound}
 use Rattle.runfile.specs.Head.{firsts, headOf}
 use Rattle.runfile.specs.Parts.{stepIn}
 use Rattle.runfile.proofs.Items.{all-at, joined-size}
-use Rattle.runfile.proofs.BothWays.{Sound, passes-when, stepItem, StepFits}
-use Rattle.runfile.proofs.Reading.{firsts-size, at-firsts}
+use Rattle.runfile.proofs.BothWays.{Sound, passes-when}
+use Rattle.runfile.proofs.FileItems.{stepItem, StepFits}
+use Rattle.runfile.proofs.Rows.{firsts-size, at-firsts}
 use Rattle.runfile.proofs.Parts.{step-there, joined-step}
 use Rattle.serial.specs.Serial.{Steps32, Run, next, runOf}
 use Rattle.serial.proofs.Never.{whole-run}

@@ -3,7 +3,6 @@
 use mathlib.Core.List.{List, [], _∷_, _++_}
 use Prim.Native.Nat.{ℕ}
 use Rattle.text.specs.Text.{lineOf}
-use Rattle.group.specs.Fresh.{fresh}
 use Rattle.runfile.specs.declared.Head.{Head}
 use Rattle.runfile.specs.File.{File, Read, got, fault}
 use Rattle.runfile.specs.Head.{headOf}

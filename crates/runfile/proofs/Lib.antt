@@ -1,9 +1,10 @@
 pub mod Items
+pub mod FileItems
 pub mod BothWays
 pub mod Examples
 pub mod Parts
+pub mod Rows
 pub mod Reading
+pub mod Sections
 pub mod Opening
-pub mod Writing
-pub mod Back
 pub mod Longer

@@ -14,7 +14,7 @@ use Rattle.runfile.specs.declared.Verdict.the-variants.{Sound}
 use Rattle.runfile.specs.File.{Cell, got, fault, andThen, atEnd, readCount, readCounter, readCell, readStep, readItems, readFile}
 use Rattle.runfile.specs.Parts.{stepsStart, stepIn}
 use Rattle.runfile.specs.Head.{padded, firsts, cellIn, headOf, emptyHead, openedOf, headWith, fileWith, Told, FrontTold}
-use Rattle.runfile.proofs.Reading.{firsts-size, firsts-map}
+use Rattle.runfile.proofs.Rows.{firsts-size, firsts-map}
 
 pub none-left : {x : ℕ} → x ≤ 0 → x ≡ 0
 none-left h = omega arith

@@ -19,17 +19,8 @@ use Rattle.little.proofs.Laws.{Bytes, digits-size, fits-in, fits-true, number-i
 use Rattle.runfile.specs.File.{File, got, stepBytes, stepFrom, cellBytes, joined, bytesOf, readFile}
 use Rattle.runfile.specs.Parts.{stepsStart, stepIn, stepAt}
 use Rattle.runfile.proofs.Items.{All, all-at, joined-size, joined-at}
-use Rattle.runfile.proofs.BothWays.{
-  counterItem,
-  cellItem,
-  stepItem,
-  StepFits,
-  step-from-bytes,
-  Passes,
-  passes-when,
-  bytes-shape,
-  written-read,
-}
+use Rattle.runfile.proofs.BothWays.{Passes, passes-when, bytes-shape, written-read}
+use Rattle.runfile.proofs.FileItems.{counterItem, cellItem, stepItem, StepFits, step-from-bytes}
 
 -- ---- a number at a place
 

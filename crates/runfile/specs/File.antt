@@ -111,7 +111,7 @@ readFile b =
     andThen (readCount 2 0 4096 b₄) (λ m b₅.
     andThen (readItems readStep m b₅) (λ steps rest. atEnd (record { counters = counters; cells = cells; steps = steps }) rest))))))
 
--- ---- writing
+-- ---- the faults of a run, by place
 
 -- an item that does not pass
 unfoldable pub someBad : {A : Type 0} → (A → Bool) → List A → Bool
@@ -126,15 +126,3 @@ faultOf f =
     (cond (someBad (λ c. maskSound n (c .mask)) (f .cells)) (some 34)
     (cond (not (leb (length (f .steps)) 4096)) (some 33)
     (cond (someBad fieldsSound (f .steps)) (some 35) none)))
-
--- the code given, 0 for none, and the output after it: the file's bytes, and no byte beyond touched
-pub record Written : Type 0 where
-  pub code : ℕ
-  pub out : List ℕ
-
-unfoldable pub written : File → List ℕ → Written
-written f out = go (faultOf f)
-  where
-    go : Option ℕ → Written
-    go (some c) = record { code = c; out = out }
-    go none = cond (leb (length (bytesOf f)) (length out)) (record { code = 0; out = bytesOf f ++ drop (length (bytesOf f)) out }) (record { code = 37; out = out })

@@ -2,16 +2,14 @@
 -- Assumes nothing.
 use mathlib.Core.Path.{_≡_}
 use mathlib.Core.List.{List, [], _∷_, _++_, map}
-use Prim.Native.Nat.{ℕ, zero, suc, _+_, _*_, _-_, _/_, _%_, _≤_, _<_}
-use mathlib.Core.Option.{none, some}
+use Prim.Native.Nat.{ℕ, zero, suc, _-_, _≤_, _<_}
 use lib.ListN.{length, drop, replicate}
 use Rattle.tables.specs.Table.{at}
-use Rattle.tables.specs.Pair.{word}
 use Rattle.kinds.specs.declared.Step.{Step}
 use Rattle.runfile.specs.declared.Head.{Head}
 use Rattle.runfile.specs.declared.Verdict.the-variants.{Sound, Faulty}
 use Rattle.runfile.specs.declared.Opened.{Opened}
-use Rattle.runfile.specs.File.{Cell, File, Read, got, fault, andThen, atEnd, readItems, readStep, readFile, faultOf}
+use Rattle.runfile.specs.File.{Cell, File, Read, got, fault, andThen, atEnd, readItems, readStep, readFile}
 use Rattle.runfile.specs.Parts.{stepsStart}
 
 -- the list with zeros after it, up to k
@@ -74,21 +72,3 @@ pub record FrontTold (b : List ℕ) (code : ℕ) (h : Head) : Type 0 where
   pub masks-padded : padded 32 (firsts (h .cells) (λ i. at (h .masks) i 0)) ≡ h .masks
   pub values-padded : padded 32 (firsts (h .cells) (λ i. at (h .values) i 0)) ≡ h .values
   pub few-steps : h .steps ≤ 4096
-
--- ---- writing
-
--- a step as the one number that its eight bytes are, and back
-abbrev pub wordOf : Step → ℕ
-wordOf x = x .kind + 256 * x .slot + 65536 * x .node + 16777216 * x .cell + word * x .value
-
-abbrev pub stepOf : ℕ → Step
-stepOf w = record { kind = w % 256; slot = w / 256 % 256; node = w / 65536 % 256; cell = w / 16777216 % 256; value = w / word }
-
--- the run that is written: as many counters and cells as the head counts, zeros where a table has no more
-unfoldable pub fileOf : Head → List ℕ → File
-fileOf h words = fileWith h (map stepOf words)
-
--- a code tells how a run was judged: 0 that it has no fault
-pub record Judged (f : File) (code : ℕ) : Type 0 where
-  pub sound : code ≡ 0 → faultOf f ≡ none
-  pub faulty : 0 < code → faultOf f ≡ some code

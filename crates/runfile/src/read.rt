@@ -39,7 +39,7 @@ fn wide(b: u8) -> u32
 }
 
 // A mask is not zero and names only nodes of the run.
-pub(crate) fn mask_sound(nodes: u8, mask: u8) -> bool
+pub fn mask_sound(nodes: u8, mask: u8) -> bool
     requires { ⌜ nodes ≤ 8 ⌝ }
     ensures { λ r. ⌜ r ≡ maskSound nodes mask ⌝ }
 {
@@ -50,7 +50,7 @@ pub(crate) fn mask_sound(nodes: u8, mask: u8) -> bool
 }
 
 // A field that the kind doesn't use is zero.
-pub(crate) fn fields_sound(x: Step) -> bool
+pub fn fields_sound(x: Step) -> bool
     ensures { λ r. ⌜ r ≡ fieldsSound x ⌝ }
 {
     let u = kinds::uses(x.kind);

@@ -24,14 +24,18 @@ use Rattle.group.specs.declared.Turn.{Turn}
 use Rattle.group.specs.declared.Answer.the-variants.{Cut}
 use Rattle.group.specs.State.{opened, stageNumber, askOf, noteOf, finalOf, writer}
 use Rattle.group.specs.Answer.{refusedTurn, stepped, changed}
+use Rattle.life.specs.Life.{beginTests, writeTests, giveUpTests, abandonTests}
+use Rattle.life.proofs.Laws.{Begun, Written, Ended}
 use Rattle.read.specs.Read.{askTests, askTurn, serveTests, readAt, serveTurn, returnTests, returnTurn, returnReads}
-use Rattle.vote.specs.Vote.{commitTests, commitTurn, commitFlight, prepareTests, voteRise, prepareTurn, prepareFlight, decideTests, decideTurn}
+use Rattle.vote.specs.Vote.{prepareTests, voteRise, prepareTurn, prepareFlight}
+use Rattle.decide.specs.Decide.{commitTests, commitTurn, commitFlight, decideTests, decideTurn}
 use Rattle.settle.specs.Settle.{learnTests, applyTests, advanceTests}
 use Rattle.score.specs.Desk.{Desk, desk, turned, withCounters}
 use Rattle.score.specs.Steps.{fieldTests, needs, voteOf, does, rise, cuts, judge, act}
-use Rattle.score.specs.Parts.{fieldRefusal, beginTests, writeTests, giveUpTests, abandonTests, outcome}
-use Rattle.settle.proofs.Laws.{step-refused, Learned, Applied, Advanced}
-use Rattle.score.proofs.Laws.{not-in-stage, Begun, Written, Ended, kind-is}
+use Rattle.score.specs.Parts.{fieldRefusal, outcome}
+use Rattle.group.proofs.Turns.{not-in-stage, step-refused}
+use Rattle.settle.proofs.Laws.{Learned, Applied, Advanced}
+use Rattle.score.proofs.Laws.{kind-is}
 
 -- ---- the fields of a step that is not refused for them
 
@@ -170,7 +174,7 @@ module _ (nodes cells : ℕ) (masks : List ℕ) (slot : Slot) (c : Counters) (fl
           wholeOf (x .kind) ≡ 1 → (r : Turn) (writes′ reads′ : List ℕ)
           → Begun cut slot c x writes reads r writes′ reads′
           → outcome r nodes cells masks flight h writes′ reads′ ≡ act q x
-      unfolding at needs rise does beginTests
+      unfolding at needs rise does
       act-begin e r writes′ reads′ p =
           let ts = beginTests slot x in
           acts begin (kind-is (x .kind) 1 e) ts refl 0 refl _ _ _ _ _ refl r (p .0) _ (still (refusal ts) cut flight) _ (still (refusal ts) cut h) _ (p .1) _ (p .2)
@@ -179,7 +183,7 @@ module _ (nodes cells : ℕ) (masks : List ℕ) (slot : Slot) (c : Counters) (fl
           wholeOf (x .kind) ≡ 2 → (r : Turn) (writes′ : List ℕ)
           → Written cut slot c x writes r writes′
           → outcome r nodes cells masks flight h writes′ reads ≡ act q x
-      unfolding at needs rise does writeTests
+      unfolding at needs rise does
       act-write e r writes′ p =
           let ts = writeTests slot in
           acts write (kind-is (x .kind) 2 e) ts refl 0 refl _ _ _ _ _ refl r (p .0) _ (still (refusal ts) cut flight) _ (still (refusal ts) cut h) _ (p .1) _ (still (refusal ts) cut reads)
@@ -242,7 +246,7 @@ module _ (nodes cells : ℕ) (masks : List ℕ) (slot : Slot) (c : Counters) (fl
           wholeOf (x .kind) ≡ 9 → (r : Turn)
           → Ended (giveUpTests slot) cut slot c r
           → outcome r nodes cells masks flight h writes reads ≡ act q x
-      unfolding at needs rise does giveUpTests
+      unfolding at needs rise does
       act-give-up e r p =
           let ts = giveUpTests slot in
           acts giveUp (kind-is (x .kind) 9 e) ts refl 0 refl _ _ _ _ _ refl r p _ (still (refusal ts) cut flight) _ (still (refusal ts) cut h) _ (still (refusal ts) cut writes) _ (still (refusal ts) cut reads)
@@ -278,7 +282,7 @@ module _ (nodes cells : ℕ) (masks : List ℕ) (slot : Slot) (c : Counters) (fl
           wholeOf (x .kind) ≡ 13 → (r : Turn)
           → Ended (abandonTests slot) cut slot c r
           → outcome r nodes cells masks flight h writes reads ≡ act q x
-      unfolding at needs rise does abandonTests
+      unfolding at needs rise does
       act-abandon e r p =
           let ts = abandonTests slot in
           acts abandon (kind-is (x .kind) 13 e) ts refl 0 refl _ _ _ _ _ refl r p _ (still (refusal ts) cut flight) _ (still (refusal ts) cut h) _ (still (refusal ts) cut writes) _ (still (refusal ts) cut reads)

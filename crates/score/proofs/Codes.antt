@@ -16,8 +16,10 @@ use Rattle.group.specs.declared.Answer.the-variants.{Done, Value, Wait, Yes, No
 use Rattle.group.specs.State.{State, has, writer, committed, askOf, inStage}
 use Rattle.group.specs.Answer.{said}
 use Rattle.whole.specs.Whole.{whole}
+use Rattle.life.specs.Life.{beginTests, writeTests, giveUpTests, abandonTests}
 use Rattle.read.specs.Read.{askTests, askTurn, readAt, blocked, serveTurn, spoilt, returnTurn}
-use Rattle.vote.specs.Vote.{commitTurn, prepareTests, Vote, votes-yes, votes-no, prepareTurn, refusedBy, decideTests, decideTurn}
+use Rattle.vote.specs.Vote.{prepareTests, Vote, votes-yes, votes-no, prepareTurn}
+use Rattle.decide.specs.Decide.{commitTurn, refusedBy, decideTests, decideTurn}
 use Rattle.settle.specs.Settle.{learnTests, learnTurn, advanceTests}
 use Rattle.score.specs.Desk.{Desk, deskOf}
 use Rattle.score.specs.Steps.{fieldTests, needs, does, voteOf, cuts, judge, act, stepWhole, stepOf}
@@ -36,7 +38,7 @@ fails-coded (t ∷ ts) c h (here e) = h .0
 fails-coded (t ∷ ts) c h (later e f) = fails-coded ts c (h .1) f
 
 needs-coded : (q : Desk) (x : Step) (k : Kind) → Codes (needs q x k)
-unfolding needs askTests prepareTests decideTests learnTests advanceTests
+unfolding needs beginTests writeTests giveUpTests abandonTests askTests prepareTests decideTests learnTests advanceTests
 needs-coded q x begin = (omega arith, (omega arith, tt))
 needs-coded q x write = (omega arith, (omega arith, tt))
 needs-coded q x ask = (omega arith, (omega arith, tt))

@@ -1,29 +1,22 @@
 -- The thirteen steps, their refusals, cut steps, and the step.
 -- Assumes nothing.
 use mathlib.Core.Bool.{Bool, cond, not, _&&_, _||_}
-use mathlib.Core.List.{List, [], _∷_}
+use mathlib.Core.List.{List, _∷_}
 use mathlib.Core.Option.{Option, none, some}
-use Prim.Native.Nat.{ℕ, _+_}
-use lib.Dec.{leb, ltb, eqb}
-use Rattle.tables.specs.Table.{put}
-use Rattle.tables.specs.Pair.{pair}
-use Rattle.tables.specs.Loop.{each}
+use Prim.Native.Nat.{ℕ}
+use lib.Dec.{leb, ltb}
 use Rattle.tables.specs.Tests.{refusal}
 use Rattle.counters.specs.Counters.{countedTo}
 use Rattle.kinds.specs.declared.Step.{Step}
 use Rattle.kinds.specs.Kinds.{Kind, begin, write, ask, serve, return, commit, prepare, decide, giveUp, learn, apply, advance, abandon, named, isKnown, usesOf}
-use Rattle.group.specs.declared.Slot.{Slot}
-use Rattle.group.specs.declared.Snapshot.the-variants.{Unfixed}
-use Rattle.group.specs.declared.Stage.the-variants.{Open, Aborted}
 use Rattle.group.specs.declared.Answer.{Answer}
-use Rattle.group.specs.declared.Answer.the-variants.{Done, Cut, Refused}
-use Rattle.group.specs.declared.Answer.the-variants as Answer
-use Rattle.group.specs.State.{State, unused, opened, served, voting, stageNumber, askOf, noteOf, finalOf, inStage, atStage}
-use Rattle.group.specs.Answer.{turn}
+use Rattle.group.specs.declared.Answer.the-variants.{Cut, Refused}
+use Rattle.group.specs.State.{State, writer, askOf, noteOf, finalOf}
 use Rattle.whole.specs.Whole.{whole}
+use Rattle.life.specs.Life.{beginTests, beginTurn, cleared, writeTests, writeTurn, written, giveUpTests, abandonTests, endTurn}
 use Rattle.read.specs.Read.{askTests, askTurn, serveTests, readAt, serveTurn, returnTests, returnTurn, returnReads}
-use Rattle.vote.specs.Vote.{commitTests, commitTurn, commitFlight, prepareTests, Vote, vote, voteRise, prepareTurn, prepareFlight, decideTests, decideTurn}
-use Rattle.group.specs.State.{writer}
+use Rattle.vote.specs.Vote.{prepareTests, Vote, vote, voteRise, prepareTurn, prepareFlight}
+use Rattle.decide.specs.Decide.{commitTests, commitTurn, commitFlight, decideTests, decideTurn}
 use Rattle.settle.specs.Settle.{learnTests, learnTurn, learnFlight, least, applyTests, applyTurn, applyChains, applyFlight, advanceTests, advanceTurn}
 use Rattle.score.specs.Desk.{Desk, deskOf, putBack, Outcome, turned, withFlight, withChains, withWrites, withReads, withCounters}
 
@@ -40,37 +33,29 @@ fieldTests nodes cells x ts =
 -- ---- refusals 19 to 24: what each kind needs
 
 unfoldable pub needs : Desk → Step → Kind → List (Bool × ℕ)
-needs q x begin = (inStage (q .slot) unused, 19) ∷ (leb (x .value) 1, 20) ∷ []
-needs q x write = (inStage (q .slot) opened, 19) ∷ (q .slot .update, 21) ∷ []
+needs q x begin = beginTests (q .slot) x
+needs q x write = writeTests (q .slot)
 needs q x ask = askTests (q .slot) (q .masks) (q .writes) (x .slot) (x .node) (x .cell)
 needs q x serve = serveTests (q .slot)
 needs q x return = returnTests (q .slot)
 needs q x commit = commitTests (q .slot)
 needs q x prepare = prepareTests (q .slot) (q .flight) (x .slot) (x .node)
 needs q x decide = decideTests (q .slot) (q .nodes) (q .flight) (x .slot)
-needs q x giveUp = (inStage (q .slot) voting, 19) ∷ []
+needs q x giveUp = giveUpTests (q .slot)
 needs q x learn = learnTests (q .slot) (q .flight) (x .slot) (x .node)
 needs q x apply = applyTests (q .flight) (x .node)
 needs q x advance = advanceTests (q .counters) (q .flight) (x .node)
-needs q x abandon = (leb opened (stageNumber (q .slot .stage)) && leb (stageNumber (q .slot .stage)) served, 19) ∷ []
+needs q x abandon = abandonTests (q .slot)
 
 -- ---- what each kind does
-
--- a slot that opens at node n has neither written nor read
-unfoldable pub cleared : List ℕ → ℕ → List ℕ
-cleared table t = each 0 32 (pair 32 t) (λ c e. 0) table
-
-abbrev pub opens : Step → Slot
-opens x = record { stage = Open; origin = x .node; update = eqb (x .value) 1; snapshot = Unfixed }
 
 abbrev pub voteOf : Desk → Step → Vote
 voteOf q x = vote (q .slot) (q .counters) (q .cells) (q .masks) (q .flight) (q .chains) (q .writes) (q .reads) (x .slot) (x .node)
 
 unfoldable pub does : Desk → Step → Kind → Outcome
 does q x begin =
-    turned (withReads (withWrites q (cleared (q .writes) (x .slot))) (cleared (q .reads) (x .slot))) (turn (Done 0) (opens x) (q .counters))
-does q x write =
-    turned (withWrites q (put (q .writes) (pair 32 (x .slot) (x .cell)) (x .value + 1))) (turn (Done 0) (q .slot) (q .counters))
+    turned (withReads (withWrites q (cleared (q .writes) (x .slot))) (cleared (q .reads) (x .slot))) (beginTurn (q .counters) x)
+does q x write = turned (withWrites q (written (q .writes) x)) (writeTurn (q .slot) (q .counters))
 does q x ask = turned q (askTurn (q .slot) (q .counters) (q .writes) (x .slot) (x .node) (x .cell))
 does q x serve = turned q (serveTurn (q .slot) (q .counters) (q .flight) (q .writes) (q .chains))
 does q x return = turned (withReads q (returnReads (q .slot) (q .reads) (x .slot))) (returnTurn (q .slot) (q .counters))
@@ -80,7 +65,7 @@ does q x commit =
 does q x prepare =
     turned (withFlight q (prepareFlight (q .flight) (x .slot) (x .node) (voteOf q x))) (prepareTurn (q .slot) (q .counters) (voteOf q x))
 does q x decide = turned q (decideTurn (q .slot) (q .counters) (q .nodes) (q .flight) (x .slot))
-does q x giveUp = turned q (turn Answer.Aborted (atStage (q .slot) Aborted) (q .counters))
+does q x giveUp = turned q (endTurn (q .slot) (q .counters))
 does q x learn = turned (withFlight q (learnFlight (q .slot) (q .flight) (x .slot) (x .node))) (learnTurn (q .slot) (q .counters))
 does q x apply =
     let t = least (q .flight) (x .node) in
@@ -88,7 +73,7 @@ does q x apply =
     (withChains (withFlight q (applyFlight (q .flight) (x .node) t)) (applyChains (q .cells) (q .masks) (q .flight) (q .chains) (q .writes) (x .node) t))
     (applyTurn (q .slot) (q .counters) (q .flight) (x .node))
 does q x advance = turned q (advanceTurn (q .slot) (q .counters))
-does q x abandon = turned q (turn Answer.Aborted (atStage (q .slot) Aborted) (q .counters))
+does q x abandon = turned q (endTurn (q .slot) (q .counters))
 
 -- ---- the cut step: the counter is written as the whole step would write it, and nothing else changes
 

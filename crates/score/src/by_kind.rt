@@ -33,7 +33,7 @@ fn ask(
     ensures { λ r. ⌜ r ≡ stepped (refusal (askTests slot (now (masks .entry)) (now (writes .entry)) t node cell)) cut slot origin 0 (askTurn slot origin (now (writes .entry)) t node cell) ⌝ }
 {
     let st = slot.stage;
-    if group::stage_number(st) != 1 {
+    if group::stage_number(st) != group::OPEN {
         return group::refused(19, slot, origin);
     }
     read::ask(cut, slot, origin, masks, writes, t, node, cell)
@@ -59,8 +59,8 @@ pub(crate) fn to_return(
     let cut = kinds::is_cut(x.kind);
     let k = kinds::whole(x.kind);
     match k {
-        1 => crate::plain::begin(cut, slot, c, x, writes, reads),
-        2 => crate::plain::write(cut, slot, c, x, writes),
+        1 => life::begin(cut, slot, c, x, writes, reads),
+        2 => life::write(cut, slot, c, x, writes),
         3 => ask(cut, slot, c, masks, writes, x.slot, x.node, x.cell),
         4 => read::serve(cut, slot, c, flight, writes, lens, versions),
         _ => read::hand(cut, slot, c, reads, x.slot),
@@ -88,7 +88,7 @@ pub(crate) fn to_give_up(
     let k = kinds::whole(x.kind);
     let t = x.slot;
     match k {
-        6 => vote::commit(cut, slot, c, nodes, cells, masks, flight, writes, reads, t),
+        6 => decide::commit(cut, slot, c, nodes, cells, masks, flight, writes, reads, t),
         7 => vote::prepare(
             cut,
             slot,
@@ -103,8 +103,8 @@ pub(crate) fn to_give_up(
             t,
             x.node,
         ),
-        8 => vote::decide(cut, slot, c, nodes, flight, t),
-        _ => crate::plain::give_up(cut, slot, c),
+        8 => decide::decide(cut, slot, c, nodes, flight, t),
+        _ => life::give_up(cut, slot, c),
     }
 }
 
@@ -142,6 +142,6 @@ pub(crate) fn to_abandon(
             x.node,
         ),
         12 => settle::advance(cut, slot, c, flight, x.node),
-        _ => crate::plain::abandon(cut, slot, c),
+        _ => life::abandon(cut, slot, c),
     }
 }

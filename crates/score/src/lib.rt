@@ -2,7 +2,6 @@
 // 18 by the table of kinds, and the rest by the kind's own function. A step moves one slot and one node's counters at most: these two are
 // taken out of the group, handed on by value, and put back. The tables are changed where they lie.
 mod by_kind;
-mod plain;
 
 use counters::Counters;
 use group::Answer;

@@ -21,7 +21,7 @@ use Rattle.chain.specs.Chain.{lenAt, versionAt}
 use Rattle.chain.proofs.Laws.{len-in}
 use Rattle.group.specs.declared.Slot.{Slot}
 use Rattle.group.specs.State.{State, holds, stageNumber, noteOf, finalOf, noSlot, slotAt, countersAt}
-use Rattle.group.specs.Fresh.{freshLens, freshVersions, fresh}
+use Rattle.fresh.specs.Fresh.{freshLens, freshVersions, fresh}
 use Rattle.serial.specs.Serial.{Sound}
 use Rattle.serial.proofs.Inv.{Chaining}
 use Rattle.serial.proofs.Views.{fixedAt, groundOf, nodesOf, slotsOf, linksOf, Sizes, All}

@@ -18,7 +18,7 @@ use Rattle.group.specs.declared.Slot.{Slot}
 use Rattle.group.specs.declared.Stage.{Stage}
 use Rattle.group.specs.declared.Stage.the-variants.{Voting, Committed}
 use Rattle.group.specs.State.{State, holds, has, writer, involved, stageNumber, finalOf, atStage, slotAt, countersAt}
-use Rattle.vote.specs.Vote.{commitTurn, sentTo, commitFlight}
+use Rattle.decide.specs.Decide.{commitTurn, sentTo, commitFlight}
 use Rattle.score.specs.Desk.{placeOf, deskOf, putBack, turned, withFlight}
 use Rattle.score.specs.Steps.{needs, does}
 use Rattle.serial.specs.Serial.{Handed}

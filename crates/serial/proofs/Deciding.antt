@@ -24,8 +24,8 @@ use Rattle.group.specs.declared.Turn.{Turn}
 use Rattle.group.specs.declared.Answer.the-variants as Answer
 use Rattle.group.specs.Answer.{turn}
 use Rattle.group.specs.State.{State, sent, votedNo, votedYes, tagAt, stageNumber, askOf, noteOf, finalOf, atStage, slotAt, countersAt}
-use Rattle.vote.specs.Vote.{refusedBy, lacking, decideTests, final, decideTurn}
-use Rattle.vote.proofs.Reasons.{final-most}
+use Rattle.decide.specs.Decide.{refusedBy, lacking, decideTests, final, decideTurn}
+use Rattle.decide.proofs.Reasons.{final-most}
 use Rattle.score.specs.Desk.{placeOf, deskOf, putBack, turned}
 use Rattle.score.specs.Steps.{needs, does}
 use Rattle.serial.specs.Serial.{Handed}

@@ -15,8 +15,8 @@ use Rattle.tables.proofs.Table.{put-size, put-other}
 use Rattle.tables.proofs.Pair.{pair-inj}
 use Rattle.group.specs.State.{State, entered, holds, noted, has, sent, involved}
 use Rattle.tables.proofs.Loop.{each-size, each-hit, each-miss, any-has}
-use Rattle.score.specs.Steps.{cleared}
-use Rattle.vote.specs.Vote.{sentTo}
+use Rattle.life.specs.Life.{cleared}
+use Rattle.decide.specs.Decide.{sentTo}
 use Rattle.serial.proofs.Views.{Sizes}
 
 -- the tables after: as long as they were, and the rows of others as they were

@@ -27,9 +27,11 @@ use Rattle.group.specs.declared.Stage.the-variants.{Voting, Committed, Aborted}
 use Rattle.group.specs.declared.Answer.the-variants as Answer
 use Rattle.group.specs.Answer.{turn}
 use Rattle.group.specs.State.{State, votedNo, votedYes, toApply, finished, entered, writer, involved, committed, stageNumber, finalOf, inStage, atStage, slotAt, countersAt}
-use Rattle.vote.specs.Vote.{commitTurn, sentTo, commitFlight, prepareTests, reason, voteFor, vote, prepareTurn, prepareFlight, refusedBy, decideTests, final, decideTurn}
+use Rattle.vote.specs.Vote.{prepareTests, reason, voteFor, vote, prepareTurn, prepareFlight}
+use Rattle.decide.specs.Decide.{commitTurn, sentTo, commitFlight, refusedBy, decideTests, final, decideTurn}
 use Rattle.settle.specs.Settle.{learnTests, learnTurn, learnFlight, applied, applyChains, applyFlight}
 use Rattle.settle.specs.Settle as Settle
+use Rattle.life.specs.Life.{giveUpTests, abandonTests}
 use Rattle.score.specs.Desk.{placeOf, deskOf, putBack, turned, withFlight}
 use Rattle.score.specs.Steps.{fieldTests, needs, does, cuts, refuses, judge, act, stepWhole}
 use Rattle.serial.specs.Serial.{Handed}
@@ -129,11 +131,11 @@ module _ (first : ℕ → ℕ) (s : State) (H : List Handed) (a : All first s H)
         again (writes c hc i w) = writes c hc i w
 
     give-up-shape : Passed (needs (deskOf s x) x giveUp) → Shape (putBack s x (does (deskOf s x) x giveUp .desk))
-    unfolding needs does deskOf
+    unfolding needs does deskOf giveUpTests
     give-up-shape o = turned-shape first s H a b x (turn Answer.Aborted (atStage (slotAt s t) Aborted) (countersAt s m)) (aborts-voting first s H a b x ht (eqb-true _ _ (o .0)))
 
     abandon-shape : Passed (needs (deskOf s x) x abandon) → Shape (putBack s x (does (deskOf s x) x abandon .desk))
-    unfolding needs does deskOf
+    unfolding needs does deskOf abandonTests
     abandon-shape o = let w = and-true (leb 1 (S .stg t)) (leb (S .stg t) 3) (o .0) in
         turned-shape first s H a b x (turn Answer.Aborted (atStage (slotAt s t) Aborted) (countersAt s m)) (aborts-early first s H a b x ht (omega (arith, leb-true 1 (S .stg t) (w .0))) (omega (arith, leb-true (S .stg t) 3 (w .1))))
 

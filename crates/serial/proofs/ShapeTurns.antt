@@ -36,7 +36,8 @@ use Rattle.group.specs.Answer.{turn}
 use Rattle.group.specs.State.{State, noted, has, involved, touched, stageNumber, askOf, noteOf, finalOf, atStage, slotAt, countersAt}
 use Rattle.read.specs.Read.{askFor, askTests, askTurn, readAt, blocked, valueOf, noteFor, waitFor, serveTurn, spoilt, returnTurn, returnReads}
 use Rattle.score.specs.Desk.{placeOf, deskOf, putBack, turned, withReads}
-use Rattle.score.specs.Steps.{cleared, opens, needs, does}
+use Rattle.life.specs.Life.{beginTests, opens, cleared, writeTests}
+use Rattle.score.specs.Steps.{needs, does}
 use Rattle.serial.specs.Serial.{Handed}
 use Rattle.serial.proofs.Inv.{Given, Slots}
 use Rattle.serial.proofs.Views.{All, Sizes, fixedAt, groundOf, nodesOf, same-slot, setSlot, slotsOf}
@@ -92,7 +93,7 @@ module _ (first : ℕ → ℕ) (s : State) (H : List Handed) (a : All first s H)
 
   module _ (ht : x .slot < 32) where
     pub begin-shape : x .node < s .group .nodes → Passed (needs (deskOf s x) x begin) → Shape (putBack s x (does (deskOf s x) x begin .desk))
-    unfolding needs does deskOf putBack
+    unfolding needs does deskOf putBack beginTests
     begin-shape hn o = uncounted s m (countersAt s m) t (opens x) (s .flight) (s .chains) (cleared (s .writes) t) (cleared (s .reads) t)
         (moved-shape s t (opens x) (s .flight) (cleared (s .writes) t) (cleared (s .reads) t) z ht (cleared-rows s t z) (record {
           early = λ n h l. b .slots t ht .early n h l;
@@ -114,7 +115,7 @@ module _ (first : ℕ → ℕ) (s : State) (H : List Handed) (a : All first s H)
         idle n h = a .inv .deciding t ht .early n h (omega (arith, e))
 
     pub write-shape : x .cell < s .group .cells → Passed (needs (deskOf s x) x write) → Shape (putBack s x (does (deskOf s x) x write .desk))
-    unfolding needs does deskOf putBack
+    unfolding needs does deskOf putBack writeTests
     write-shape hc o = uncounted s m (countersAt s m) t (slotAt s t) (s .flight) (s .chains) w (s .reads)
         (moved-shape s t (slotAt s t) (s .flight) w (s .reads) z ht (written-rows s t (x .cell) (x .value + 1) z (omega (arith, z .cells-high))) (record {
           early = λ n h l. b .slots t ht .early n h l;

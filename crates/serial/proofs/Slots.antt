@@ -28,7 +28,8 @@ use Rattle.group.specs.declared.Answer.the-variants.{Done, Value}
 use Rattle.group.specs.Answer.{turn}
 use Rattle.read.specs.Read.{askTests, askFor, askTurn}
 use Rattle.score.specs.Desk.{placeOf, deskOf, putBack, turned}
-use Rattle.score.specs.Steps.{cleared, opens, needs, does}
+use Rattle.life.specs.Life.{beginTests, opens, cleared, writeTests, giveUpTests, abandonTests}
+use Rattle.score.specs.Steps.{needs, does}
 use Rattle.serial.specs.Serial.{Handed}
 use Rattle.serial.proofs.Inv.{Ground, Nodes, Slots}
 use Rattle.serial.proofs.Views.{All, fixedAt, groundOf, nodesOf, same-slot, setSlot, slotsOf}
@@ -44,7 +45,7 @@ module _ (first : ℕ → ℕ) (s : State) (H : List Handed) (a : All first s H)
   S = slotsOf s
 
   pub begin-keeps : Passed (needs (deskOf s x) x begin) → All first (putBack s x (does (deskOf s x) x begin .desk)) H
-  unfolding needs does deskOf putBack
+  unfolding needs does deskOf putBack beginTests
   begin-keeps o = unmoved first s H a x ht (opens x) (s .flight) w r (quietly s t (opens x) (s .flight) w r first H H ht rows
       (free S S′ t (undecided first s H a x ht 0 e (λ z. omega arith)) (ap (λ (y : Slot). finalOf (y .stage)) here) (λ n hn. omega (arith, none n hn)) (λ l. absurd (omega (arith, unfixed))) (λ c hc l. absurd (omega (arith, unfixed))))
       (early-one G C S′ t (ap (λ (y : Slot). finalOf (y .stage)) here) (λ c hc l b. absurd (omega (arith, cleared-here (s .writes) t c (a .sizes .writes1024) ht hc))) (λ c hc. omega (arith, cleared-here (s .writes) t c (a .sizes .writes1024) ht hc))
@@ -85,7 +86,7 @@ module _ (first : ℕ → ℕ) (s : State) (H : List Handed) (a : All first s H)
       rows = cleared-rows s t (a .sizes)
 
   pub write-keeps : x .cell < s .group .cells → x .value < word → Passed (needs (deskOf s x) x write) → All first (putBack s x (does (deskOf s x) x write .desk)) H
-  unfolding needs does deskOf putBack
+  unfolding needs does deskOf putBack writeTests
   write-keeps hc hv o = unmoved first s H a x ht y (s .flight) w (s .reads) (quietly s t y (s .flight) w (s .reads) first H H ht rows
       (free S S′ t (undecided first s H a x ht 1 e (λ z. omega arith)) (ap (λ (z : Slot). finalOf (z .stage)) here ∙ undecided first s H a x ht 1 e (λ z. omega arith)) (λ n hn. omega (arith, none n hn)) (λ l. ap (λ (z : Slot). fixedAt (z .snapshot)) here) (λ c h l b. b))
       (early-one G C S′ t (ap (λ (z : Slot). finalOf (z .stage)) here ∙ undecided first s H a x ht 1 e (λ z. omega arith)) inRun values (omega (arith, still, e)) none)
@@ -135,12 +136,12 @@ module _ (first : ℕ → ℕ) (s : State) (H : List Handed) (a : All first s H)
       values c h = elim (ℕ-discrete c (x .cell)) [ yes z ↦ rw (wrote c h z) (omega arith) | no z ↦ rw (other c h z) (a .inv .deciding t ht .values c h) ]
 
   pub give-up-keeps : Passed (needs (deskOf s x) x giveUp) → All first (putBack s x (does (deskOf s x) x giveUp .desk)) H
-  unfolding needs does deskOf putBack
+  unfolding needs does deskOf putBack giveUpTests
   give-up-keeps o = let e : S .stg t ≡ 4 = eqb-true _ _ (o .0) in
       unmoved first s H a x ht (atStage (slotAt s t) Aborted) (s .flight) (s .writes) (s .reads) (aborts first s H a x ht (omega (arith, e)) (undecided first s H a x ht 4 e (λ z. omega arith)) (λ n hn. a .inv .deciding t ht .voting n hn e))
 
   pub abandon-keeps : Passed (needs (deskOf s x) x abandon) → All first (putBack s x (does (deskOf s x) x abandon .desk)) H
-  unfolding needs does deskOf putBack
+  unfolding needs does deskOf putBack abandonTests
   abandon-keeps o = let r = and-true _ _ (o .0) in let l : 1 ≤ S .stg t = leb-true _ _ (r .0) in let h : S .stg t ≤ 3 = leb-true _ _ (r .1) in
       unmoved first s H a x ht (atStage (slotAt s t) Aborted) (s .flight) (s .writes) (s .reads)
       (aborts first s H a x ht l (undecided first s H a x ht (S .stg t) refl (λ z. omega arith)) (λ n hn. omega (arith, a .inv .deciding t ht .early n hn (omega arith))))

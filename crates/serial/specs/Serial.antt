@@ -16,7 +16,7 @@ use Rattle.kinds.specs.declared.Step.{Step}
 use Rattle.group.specs.declared.Answer.{Answer}
 use Rattle.group.specs.State.{State, holds, unfinished, noted, has, writer, committed, inStage, noteOf, finalOf, slotAt}
 use Rattle.group.specs.Answer.{said}
-use Rattle.group.specs.Fresh.{fresh}
+use Rattle.fresh.specs.Fresh.{fresh}
 use Rattle.score.specs.Steps.{stepOf}
 
 -- a sound group: 1 to 8 nodes with their counters, 1 to 32 cells with masks of the run's nodes, all numbers and values of 32 bits

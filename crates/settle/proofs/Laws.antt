@@ -11,7 +11,7 @@ use borrow.Author.Tests.{lt-ltb, le-ltb, eq-eqb, ne-eqb, not-true, not-false}
 use Rattle.tables.specs.Loop.{any, lesser, leastAt}
 use Rattle.tables.specs.Tests.{refusal}
 use Rattle.tables.proofs.Loop.{at-end, turns-none, turns-next, leastAt-none, leastAt-next, Least, no-least, least as is-least, least-is}
-use Rattle.tables.proofs.Tests.{Passed, Fails, here, later, accepted, refused}
+use Rattle.tables.proofs.Tests.{Passed, Fails, here, later}
 use Rattle.counters.specs.Counters.{countedTo, committedAt}
 use Rattle.counters.specs.declared.Counters.{Counters}
 use Rattle.chain.specs.Chain.{Chains, added}
@@ -20,32 +20,11 @@ use Rattle.group.specs.Answer.{turn, refusedTurn, cutTurn, stepped, changed}
 use Rattle.group.specs.declared.Slot.{Slot}
 use Rattle.group.specs.declared.Turn.{Turn}
 use Rattle.group.specs.declared.Answer.the-variants.{Done}
+use Rattle.group.proofs.Turns.{step-refused, step-cut, step-whole, kept-refused, kept-cut, changed-whole}
 use Rattle.settle.specs.Settle.{learnTests, learnTurn, learnFlight, least, stored, applied, applyTests, applyTurn, applyFlight, applyChains, advanceTests, advanceTurn}
 use Rattle.settle.specs.Found.{slotOf, numberOf}
 use Rattle.settle.specs.declared.Found.{Found}
 use Rattle.settle.specs.declared.Found.the-variants.{At, Nothing}
-
--- ---- what a step comes to: its turn, and a table
-
-module _ (ts : List (Bool × ℕ)) (cut : Bool) (slot : Slot) (c : Counters) (k : ℕ) (whole r : Turn) where
-  pub step-refused : {code : ℕ} → Fails ts code → r ≡ refusedTurn code slot c → r ≡ stepped (refusal ts) cut slot c k whole
-  step-refused f e = rw (refused f) e
-
-  pub step-cut : Passed ts → cut ≡ true → r ≡ cutTurn slot c k → r ≡ stepped (refusal ts) cut slot c k whole
-  step-cut p q e = rw (accepted ts p, q) e
-
-  pub step-whole : Passed ts → cut ≡ false → r ≡ whole → r ≡ stepped (refusal ts) cut slot c k whole
-  step-whole p q e = rw (accepted ts p, q) e
-
-module _ {A : Type 0} (ts : List (Bool × ℕ)) (cut : Bool) (old new : A) where
-  pub kept-refused : {code : ℕ} → Fails ts code → old ≡ changed (refusal ts) cut old new
-  kept-refused f = rw (refused f)
-
-  pub kept-cut : Passed ts → cut ≡ true → old ≡ changed (refusal ts) cut old new
-  kept-cut p q = rw (accepted ts p, q)
-
-  pub changed-whole : Passed ts → cut ≡ false → (x : A) → x ≡ new → x ≡ changed (refusal ts) cut old new
-  changed-whole p q x e = rw (accepted ts p, q) e
 
 -- ---- rule D
 

@@ -2,7 +2,6 @@
 // caller lends and that are changed where they lie. The refusals come first, in their order; then the cut step, which changes no table; then
 // the whole step. The functions are for callers that know their places to be in range.
 use counters::Counters;
-use group::Answer;
 use group::Slot;
 use group::Turn;
 ghost use mathlib.Core.Path.{_≡_};
@@ -13,8 +12,7 @@ ghost use Rattle.tables.specs.Tests.{refusal};
 ghost use Rattle.tables.specs.Loop.{any, lesser};
 ghost use Rattle.chain.specs.Chain.{chains, added};
 ghost use Rattle.group.specs.State.{holds, sent, votedYes, tagAt, numberAt, unfinished, noted, has, committed, aborted, finalOf};
-ghost use Rattle.group.specs.Answer.{turn, cutTurn, stepped, changed};
-ghost use Rattle.group.specs.declared.Answer.the-variants.{Done as IsDone};
+ghost use Rattle.group.specs.Answer.{stepped, changed};
 ghost use Rattle.settle.specs.Settle.{learnTests, learnTurn, learnFlight, least as leastOf, applyTests, stored, applied, applyTurn, applyChains, applyFlight, advanceTests, advanceTurn};
 ghost use Rattle.settle.specs.Found.{slotOf, numberOf};
 
@@ -24,48 +22,13 @@ enum Found {
     Nothing,
 }
 
-// ---- what a step comes to
-
-fn done(k: u32, slot: Slot, c: Counters) -> Turn
-    ensures { λ r. ⌜ r ≡ turn (IsDone k) slot c ⌝ }
-{
-    Turn {
-        answer: Answer::Done(k),
-        slot,
-        counters: c,
-    }
-}
-
-// The step cut by power loss: the counter rises to k at least, and nothing else changes.
-fn cut_at(k: u32, slot: Slot, c: Counters) -> Turn
-    ensures { λ r. ⌜ r ≡ cutTurn slot c k ⌝ }
-{
-    let counters = counters::counted(c, k);
-    Turn {
-        answer: Answer::Cut,
-        slot,
-        counters,
-    }
-}
-
-// The same of a step that moves no counter.
-fn cut_still(slot: Slot, c: Counters) -> Turn
-    ensures { λ r. ⌜ r ≡ cutTurn slot c 0 ⌝ }
-{
-    Turn {
-        answer: Answer::Cut,
-        slot,
-        counters: c,
-    }
-}
-
 // ---- rule D, learn
 
 // Committed or aborted.
 fn decided(stage: u8) -> bool
     ensures { λ r. ⌜ r ≡ (eqb stage committed || eqb stage aborted) ⌝ }
 {
-    stage == 5 || stage == 6
+    stage == group::COMMITTED || stage == group::ABORTED
 }
 
 // A prepare was sent, and the node has learned no decision since.
@@ -74,7 +37,7 @@ fn not_learned(flight: &[u64; 256], t: u8, node: u8) -> bool
     ensures { λ r. ⌜ r ≡ (leb sent (tagAt (now (flight .entry)) t node) && leb (tagAt (now (flight .entry)) t node) votedYes) ⌝ }
 {
     let k = group::tag(flight, t, node);
-    1 <= k && k <= 3
+    group::SENT <= k && k <= group::VOTED_YES
 }
 
 // Rule D. Committed: the entry takes the final number, and the counter rises to it at least. Aborted: the entry is dropped, and a prepare that
@@ -93,14 +56,14 @@ pub fn learn(cut: bool, slot: Slot, c: Counters, flight: &mut [u64; 256], t: u8,
     }
     let k = group::final_of(st);
     if cut {
-        return cut_at(k, slot, c);
+        return group::cut_at(k, slot, c);
     }
-    if stage == 5 {
-        group::enter(flight, t, node, 4, k);
-        return done(k, slot, counters::counted(c, k));
+    if stage == group::COMMITTED {
+        group::enter(flight, t, node, group::TO_APPLY, k);
+        return group::done(k, slot, counters::counted(c, k));
     }
-    group::enter(flight, t, node, 5, 0);
-    done(0, slot, c)
+    group::enter(flight, t, node, group::FINISHED, 0);
+    group::done(0, slot, c)
 }
 
 // ---- rule E, apply
@@ -210,15 +173,15 @@ pub fn apply(
     else {
         return group::refused(23, slot, c);
     };
-    if group::tag(flight, first, node) != 4 {
+    if group::tag(flight, first, node) != group::TO_APPLY {
         return group::refused(23, slot, c);
     }
     if cut {
-        return cut_still(slot, c);
+        return group::cut_still(slot, c);
     }
     store(cells, masks, lens, versions, writes, first, node, k);
-    group::enter(flight, first, node, 5, 0);
-    done(k, slot, counters::committed(c, k))
+    group::enter(flight, first, node, group::FINISHED, 0);
+    group::done(k, slot, counters::committed(c, k))
 }
 
 // ---- step 12, advance
@@ -250,7 +213,7 @@ pub fn advance(cut: bool, slot: Slot, c: Counters, flight: &[u64; 256], node: u8
         return group::refused(23, slot, c);
     }
     if cut {
-        return cut_still(slot, c);
+        return group::cut_still(slot, c);
     }
-    done(0, slot, counters::committed(c, c.seen))
+    group::done(0, slot, counters::committed(c, c.seen))
 }

@@ -1,5 +1,5 @@
--- Why rule C is as it is: what a yes means, and a no for reason 1; what a prepare is let in to; and what a decision is made of. Each is
--- said of the outcome and of the tables, and not of how the rule is written.
+-- Why rule C is as it is: what a yes means, and a no for reason 1; and what a prepare is let in to. Each is said of the outcome and of the
+-- tables, and not of how the rule is written.
 -- Assumes nothing.
 use mathlib.Core.Path.{_≡_, refl, sym, ap, _∙_}
 use mathlib.Core.Logic.{_≢_}
@@ -9,11 +9,11 @@ use mathlib.Core.Option.{Option, none, some}
 use Prim.Native.Nat.{ℕ, _≤_, _<_}
 use native.Mathlib.Omega.{arith}
 use lib.Dec.{ltb}
-use borrow.Author.Tests.{ltb-true, ltb-false, eqb-true, eqb-false, eq-eqb, ne-eqb, lt-ltb, not-true}
+use borrow.Author.Tests.{ltb-true, ltb-false, eqb-true, eqb-false, ne-eqb, lt-ltb, not-true}
 use Rattle.tables.specs.Loop.{any}
 use Rattle.tables.specs.Tests.{refusal}
 use Rattle.tables.proofs.Choice.{by-test, and-true, or-false, not-both, not-not}
-use Rattle.tables.proofs.Loop.{any-at, any-where, Where, found, largest-at}
+use Rattle.tables.proofs.Loop.{any-at, any-where, Where, found}
 use Rattle.tables.proofs.Tests.{Passed}
 use Rattle.number.specs.Proposal.{proposal, IsProposal}
 use Rattle.number.proofs.Laws.{proposal-is}
@@ -21,8 +21,8 @@ use Rattle.counters.specs.declared.Counters.{Counters}
 use Rattle.chain.specs.Chain.{Chains, lenAt, latest, hasRoom}
 use Rattle.group.specs.declared.Slot.{Slot}
 use Rattle.group.specs.declared.Answer.the-variants.{Yes}
-use Rattle.group.specs.State.{holds, votedYes, tagAt, numberAt, unfinished, noted, has, voting, committed, aborted, stageNumber, snapshotOf}
-use Rattle.vote.specs.Vote.{prepareTests, bars, rival, conflict, behind, outdated, crammed, full, exists, reason, Vote, votes-yes, votes-no, voteFor, vote, prepareTurn, proposed, final}
+use Rattle.group.specs.State.{holds, tagAt, unfinished, noted, has, voting, committed, aborted, stageNumber, snapshotOf}
+use Rattle.vote.specs.Vote.{prepareTests, bars, rival, conflict, behind, outdated, crammed, full, exists, reason, Vote, votes-yes, votes-no, voteFor, vote, prepareTurn}
 use Rattle.vote.proofs.Laws.{no-2, no-3, by-proposal}
 
 -- ---- what a prepare is let in to
@@ -162,10 +162,3 @@ module _ (slot : Slot) (c : Counters) (cells : ℕ) (masks flight : List ℕ) (c
       who : Where 32 (rival cells masks flight writes reads t n) true → ⊥
       who (found u hu e) = let r = and-true _ _ e in let q = and-true _ _ (r .0) in
           what u hu (eqb-false u t (not-true _ (q .0))) (q .1) (any-where cells (bars masks writes reads t n u) (r .1))
-
--- ---- decide
-
--- The final number is no less than any proposal.
-pub final-most : (nodes : ℕ) (flight : List ℕ) (t n : ℕ) → n < nodes → tagAt flight t n ≡ votedYes → numberAt flight t n ≤ final nodes flight t
-unfolding final
-final-most nodes flight t n hn e = let l = largest-at (proposed flight t) nodes n hn in rw (eq-eqb _ _ e) at l

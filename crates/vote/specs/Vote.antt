@@ -1,45 +1,23 @@
--- Voting: step 6, commit; rule C, prepare; step 8, decide.
+-- Voting: rule C, prepare.
 -- Assumes nothing.
 use mathlib.Core.Bool.{Bool, true, false, cond, not, _&&_, _||_}
 use mathlib.Core.List.{List, [], _∷_}
 use mathlib.Core.Option.{Option, none, some}
 use Prim.Native.Nat.{ℕ}
-use lib.Dec.{leb, ltb, eqb}
-use Rattle.tables.specs.Pair.{pair, word}
-use Rattle.tables.specs.Loop.{any, largest, each}
+use lib.Dec.{ltb, eqb}
+use Rattle.tables.specs.Loop.{any}
 use Rattle.tables.specs.Tests.{refusal}
 use Rattle.number.specs.Proposal.{proposal}
 use Rattle.counters.specs.Counters.{countedTo}
 use Rattle.chain.specs.Chain.{Chains, latest, hasRoom}
 use Rattle.counters.specs.declared.Counters.{Counters}
 use Rattle.group.specs.declared.Slot.{Slot}
-use Rattle.group.specs.declared.Stage.the-variants.{Voting, Committed, Aborted}
-use Rattle.group.specs.State.{holds, sent, votedNo, votedYes, tagAt, numberAt, entered, unfinished, has, writer, involved, opened, voting, snapshotOf, inStage, atStage}
+use Rattle.group.specs.State.{holds, sent, votedNo, votedYes, tagAt, entered, unfinished, has, voting, snapshotOf, inStage}
 use Rattle.group.specs.declared.Turn.{Turn}
-use Rattle.group.specs.declared.Answer.the-variants.{Done, Yes, No}
+use Rattle.group.specs.declared.Answer.the-variants.{Yes, No}
 use Rattle.group.specs.Answer.{turn}
-use Rattle.group.specs.declared.Answer.the-variants as Answer
 use Rattle.vote.specs.declared.Ballot.{Ballot}
 use Rattle.vote.specs.declared.Ballot.the-variants as Ballot
-
--- ---- step 6, commit
-
-abbrev pub commitTests : Slot → List (Bool × ℕ)
-commitTests slot = (inStage slot opened, 19) ∷ []
-
--- no writes: committed, number 0
-unfoldable pub commitTurn : Slot → Counters → Bool → Turn
-commitTurn slot c writes =
-    cond writes (turn (Done 0) (atStage slot Voting) c) (turn (Answer.Committed 0) (atStage slot (Committed 0)) c)
-
--- else prepare is sent to every holder of a read or written cell
-unfoldable pub sentTo : ℕ → ℕ → List ℕ → List ℕ → List ℕ → List ℕ → ℕ → List ℕ
-sentTo nodes cells masks flight writes reads t =
-    each 0 nodes (pair 8 t) (λ n e. cond (involved cells masks writes reads t n) (pair word sent 0) e) flight
-
-unfoldable pub commitFlight : ℕ → ℕ → List ℕ → List ℕ → List ℕ → List ℕ → ℕ → List ℕ
-commitFlight nodes cells masks flight writes reads t =
-    cond (writer cells writes t) (sentTo nodes cells masks flight writes reads t) flight
 
 -- ---- rule C, prepare: transaction t at node n, whose counters these are
 
@@ -121,30 +99,3 @@ prepareTurn slot c (votes-no r) = turn (No r) slot c
 abbrev pub prepareFlight : List ℕ → ℕ → ℕ → Vote → List ℕ
 prepareFlight flight t n (votes-yes k) = entered flight t n votedYes k
 prepareFlight flight t n (votes-no r) = entered flight t n votedNo 0
-
--- ---- step 8, decide
-
--- a node voted no; a vote is lacking
-unfoldable pub refusedBy : ℕ → List ℕ → ℕ → Bool
-refusedBy nodes flight t = any nodes (λ n. eqb (tagAt flight t n) votedNo)
-
-unfoldable pub lacking : ℕ → List ℕ → ℕ → Bool
-lacking nodes flight t = any nodes (λ n. eqb (tagAt flight t n) sent)
-
-unfoldable pub decideTests : Slot → ℕ → List ℕ → ℕ → List (Bool × ℕ)
-decideTests slot nodes flight t =
-    (inStage slot voting, 19) ∷ (refusedBy nodes flight t || not (lacking nodes flight t), 24) ∷ []
-
--- what node n proposed; 0 where it has no yes vote
-abbrev pub proposed : List ℕ → ℕ → ℕ → ℕ
-proposed flight t n = cond (eqb (tagAt flight t n) votedYes) (numberAt flight t n) 0
-
--- the largest proposal
-unfoldable pub final : ℕ → List ℕ → ℕ → ℕ
-final nodes flight t = largest nodes (proposed flight t)
-
--- a no vote: aborted; all voted yes: committed with the largest proposal
-unfoldable pub decideTurn : Slot → Counters → ℕ → List ℕ → ℕ → Turn
-decideTurn slot c nodes flight t =
-    cond (refusedBy nodes flight t) (turn Answer.Aborted (atStage slot Aborted) c)
-    (turn (Answer.Committed (final nodes flight t)) (atStage slot (Committed (final nodes flight t))) c)

@@ -1,133 +1,27 @@
-// Voting: step 6, commit; rule C, prepare; step 8, decide. Each moves one slot and one node's counters, which go by value; of the tables,
-// which the caller lends, the flight table alone is changed, where it lies. The refusals come first, in their order; then the cut step, which
-// changes no table; then the whole step. The functions are for callers that know their places to be in range.
+// Voting: rule C, prepare. It moves one slot and one node's counters, which go by value; of the tables, which the caller lends, the flight table
+// alone is changed, where it lies. The refusals come first, in their order; then the cut step, which changes no table; then the whole step.
+// The functions are for callers that know their places to be in range.
 use counters::Counters;
 use group::Answer;
 use group::Slot;
-use group::Stage;
 use group::Turn;
 use number::Proposal;
 ghost use mathlib.Core.Path.{_≡_};
-ghost use mathlib.Core.Bool.{cond, not, _&&_, _||_};
+ghost use mathlib.Core.Bool.{_&&_, _||_};
 ghost use mathlib.Core.Option.{none};
-ghost use Prim.Native.Nat.{_≤_, _<_, max};
-ghost use lib.Dec.{eqb};
-ghost use Rattle.tables.specs.Table.{at, put};
-ghost use Rattle.tables.specs.Pair.{pair, word};
+ghost use Prim.Native.Nat.{_≤_, _<_};
 ghost use Rattle.tables.specs.Loop.{any};
 ghost use Rattle.tables.specs.Tests.{refusal};
 ghost use Rattle.number.specs.Proposal.{resultOf};
 ghost use Rattle.chain.specs.Chain.{chains};
-ghost use Rattle.group.specs.State.{sent, tagAt, has, writer, involved};
-ghost use Rattle.group.specs.Answer.{cutTurn, stepped, changed};
-ghost use Rattle.vote.specs.Vote.{commitTests, commitTurn, sentTo, commitFlight, prepareTests, bars as isBar, rival as isRival, conflict as isConflict, behind as isBehind, outdated as isOutdated, crammed as isCrammed, vote as voteOf, voteFor, ballotOf, voteRise, prepareTurn, prepareFlight, decideTests, proposed as proposedBy, final, decideTurn};
-
-// The stages and the tags of flight entries that matter here, by number.
-const OPEN: u8 = 1;
-
-const VOTING: u8 = 4;
-
-const SENT: u32 = 1;
-
-const VOTED_NO: u32 = 2;
-
-const VOTED_YES: u32 = 3;
+ghost use Rattle.group.specs.State.{has};
+ghost use Rattle.group.specs.Answer.{stepped, changed};
+ghost use Rattle.vote.specs.Vote.{prepareTests, bars as isBar, rival as isRival, conflict as isConflict, behind as isBehind, outdated as isOutdated, crammed as isCrammed, vote as voteOf, voteFor, ballotOf, voteRise, prepareTurn, prepareFlight};
 
 // What rule C comes to: yes with the proposal, or no with the reason.
 enum Ballot {
     Yes(u32),
     No(u32),
-}
-
-// The step cut by power loss: the counter rises to k at least, and nothing else changes.
-fn cut_at(k: u32, slot: Slot, c: Counters) -> Turn
-    ensures { λ r. ⌜ r ≡ cutTurn slot c k ⌝ }
-{
-    let counters = counters::counted(c, k);
-    Turn {
-        answer: Answer::Cut,
-        slot,
-        counters,
-    }
-}
-
-// ---- step 6, commit
-
-// A prepare is sent to one node, if it holds a read or written cell.
-fn send_to(
-    cells: u8,
-    masks: &[u8; 32],
-    flight: &mut [u64; 256],
-    writes: &[u64; 1024],
-    reads: &[u64; 1024],
-    t: u8,
-    node: u8,
-)
-    requires { ⌜ (cells ≤ 32) × (t < 32) × (node < 8) ⌝ }
-    ensures { λ _. ⌜ now (flight .exit) ≡ put (now (flight .entry)) (pair 8 t node) (cond (involved cells (now (masks .entry)) (now (writes .entry)) (now (reads .entry)) t node) (pair word sent 0) (at (now (flight .entry)) (pair 8 t node) 0)) ⌝ }
-{
-    if group::involved(cells, masks, writes, reads, t, node) {
-        group::enter(flight, t, node, SENT, 0);
-    }
-}
-
-fn send(
-    nodes: u8,
-    cells: u8,
-    masks: &[u8; 32],
-    flight: &mut [u64; 256],
-    writes: &[u64; 1024],
-    reads: &[u64; 1024],
-    t: u8,
-)
-    requires { ⌜ (nodes ≤ 8) × (cells ≤ 32) × (t < 32) ⌝ }
-    ensures { λ _. ⌜ now (flight .exit) ≡ sentTo nodes cells (now (masks .entry)) (now (flight .entry)) (now (writes .entry)) (now (reads .entry)) t ⌝ }
-{
-    let mut n: u8 = 0;
-    while n < nodes {
-        send_to(cells, masks, flight, writes, reads, t, n);
-        n = n + 1;
-    }
-}
-
-// Step 6. No writes: committed, number 0. Else a prepare is sent to every holder of a read or written cell.
-pub fn commit(
-    cut: bool,
-    slot: Slot,
-    c: Counters,
-    nodes: u8,
-    cells: u8,
-    masks: &[u8; 32],
-    flight: &mut [u64; 256],
-    writes: &[u64; 1024],
-    reads: &[u64; 1024],
-    t: u8,
-) -> Turn
-    requires { ⌜ (nodes ≤ 8) × (cells ≤ 32) × (t < 32) ⌝ }
-    ensures { λ r. ⌜ (r ≡ stepped (refusal (commitTests slot)) cut slot c 0 (commitTurn slot c (writer cells (now (writes .entry)) t))) × (now (flight .exit) ≡ changed (refusal (commitTests slot)) cut (now (flight .entry)) (commitFlight nodes cells (now (masks .entry)) (now (flight .entry)) (now (writes .entry)) (now (reads .entry)) t)) ⌝ }
-{
-    let st = slot.stage;
-    if group::stage_number(st) != OPEN {
-        return group::refused(19, slot, c);
-    }
-    if cut {
-        return cut_at(0, slot, c);
-    }
-    if group::writer(cells, writes, t) {
-        send(nodes, cells, masks, flight, writes, reads, t);
-        let slot = group::at_stage(slot, Stage::Voting);
-        return Turn {
-            answer: Answer::Done(0),
-            slot,
-            counters: c,
-        };
-    }
-    let slot = group::at_stage(slot, Stage::Committed(0));
-    Turn {
-        answer: Answer::Committed(0),
-        slot,
-        counters: c,
-    }
 }
 
 // ---- rule C, test 1: among cells held here, no other unfinished entry reads or writes one that t writes, nor writes one that t read
@@ -362,9 +256,9 @@ fn cast(
     match b {
         Ballot::Yes(k) => {
             if cut {
-                return cut_at(k, slot, c);
+                return group::cut_at(k, slot, c);
             }
-            group::enter(flight, t, node, VOTED_YES, k);
+            group::enter(flight, t, node, group::VOTED_YES, k);
             let raised = counters::counted(c, k);
             Turn {
                 answer: Answer::Yes(k),
@@ -374,9 +268,9 @@ fn cast(
         }
         Ballot::No(reason) => {
             if cut {
-                return cut_at(0, slot, c);
+                return group::cut_at(0, slot, c);
             }
-            group::enter(flight, t, node, VOTED_NO, 0);
+            group::enter(flight, t, node, group::VOTED_NO, 0);
             Turn {
                 answer: Answer::No(reason),
                 slot,
@@ -405,10 +299,10 @@ pub fn prepare(
     ensures { λ r. ⌜ (r ≡ stepped (refusal (prepareTests slot (now (flight .entry)) t node)) cut slot c (voteRise (voteOf slot c cells (now (masks .entry)) (now (flight .entry)) (chains (now (lens .entry)) (now (versions .entry))) (now (writes .entry)) (now (reads .entry)) t node)) (prepareTurn slot c (voteOf slot c cells (now (masks .entry)) (now (flight .entry)) (chains (now (lens .entry)) (now (versions .entry))) (now (writes .entry)) (now (reads .entry)) t node))) × (now (flight .exit) ≡ changed (refusal (prepareTests slot (now (flight .entry)) t node)) cut (now (flight .entry)) (prepareFlight (now (flight .entry)) t node (voteOf slot c cells (now (masks .entry)) (now (flight .entry)) (chains (now (lens .entry)) (now (versions .entry))) (now (writes .entry)) (now (reads .entry)) t node))) ⌝ }
 {
     let st = slot.stage;
-    if group::stage_number(st) != VOTING {
+    if group::stage_number(st) != group::VOTING {
         return group::refused(19, slot, c);
     }
-    if group::tag(flight, t, node) != SENT {
+    if group::tag(flight, t, node) != group::SENT {
         return group::refused(19, slot, c);
     }
     let b = vote(
@@ -425,93 +319,4 @@ pub fn prepare(
         node,
     );
     cast(cut, slot, c, flight, t, node, b)
-}
-
-// ---- step 8, decide
-
-// Has some node an entry with that tag.
-fn tagged(nodes: u8, flight: &[u64; 256], t: u8, tag: u32) -> bool
-    requires { ⌜ (nodes ≤ 8) × (t < 32) ⌝ }
-    ensures { λ r. ⌜ r ≡ any nodes (λ n. eqb (tagAt (now (flight .entry)) t n) tag) ⌝ }
-{
-    let mut n: u8 = 0;
-    while n < nodes {
-        if group::tag(flight, t, n) == tag {
-            return true;
-        }
-        n = n + 1;
-    }
-    false
-}
-
-// One no is enough; else every vote is needed.
-fn ready(no: bool, lacks: bool) -> bool
-    ensures { λ r. ⌜ r ≡ (no || not lacks) ⌝ }
-{
-    no || !lacks
-}
-
-// What a node proposed; 0, which is below every proposal, where it has no yes vote.
-fn proposed(flight: &[u64; 256], t: u8, node: u8) -> u32
-    requires { ⌜ (t < 32) × (node < 8) ⌝ }
-    ensures { λ r. ⌜ r ≡ proposedBy (now (flight .entry)) t node ⌝ }
-{
-    if group::tag(flight, t, node) == VOTED_YES {
-        group::number(flight, t, node)
-    } else {
-        0
-    }
-}
-
-fn larger(a: u32, b: u32) -> u32
-    ensures { λ r. ⌜ r ≡ max a b ⌝ }
-{
-    if a < b { b } else { a }
-}
-
-fn final_number(nodes: u8, flight: &[u64; 256], t: u8) -> u32
-    requires { ⌜ (nodes ≤ 8) × (t < 32) ⌝ }
-    ensures { λ r. ⌜ r ≡ final nodes (now (flight .entry)) t ⌝ }
-{
-    let mut best: u32 = 0;
-    let mut n: u8 = 0;
-    while n < nodes {
-        best = larger(best, proposed(flight, t, n));
-        n = n + 1;
-    }
-    best
-}
-
-// Step 8. A no vote: aborted. All voted yes: committed with the largest proposal.
-pub fn decide(cut: bool, slot: Slot, c: Counters, nodes: u8, flight: &[u64; 256], t: u8) -> Turn
-    requires { ⌜ (nodes ≤ 8) × (t < 32) ⌝ }
-    ensures { λ r. ⌜ r ≡ stepped (refusal (decideTests slot nodes (now (flight .entry)) t)) cut slot c 0 (decideTurn slot c nodes (now (flight .entry)) t) ⌝ }
-{
-    let st = slot.stage;
-    if group::stage_number(st) != VOTING {
-        return group::refused(19, slot, c);
-    }
-    let no = tagged(nodes, flight, t, VOTED_NO);
-    let lacks = tagged(nodes, flight, t, SENT);
-    if !ready(no, lacks) {
-        return group::refused(24, slot, c);
-    }
-    if cut {
-        return cut_at(0, slot, c);
-    }
-    if no {
-        let slot = group::at_stage(slot, Stage::Aborted);
-        return Turn {
-            answer: Answer::Aborted,
-            slot,
-            counters: c,
-        };
-    }
-    let k = final_number(nodes, flight, t);
-    let slot = group::at_stage(slot, Stage::Committed(k));
-    Turn {
-        answer: Answer::Committed(k),
-        slot,
-        counters: c,
-    }
 }

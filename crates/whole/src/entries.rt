@@ -24,7 +24,7 @@ fn spread(
     let mut ok = true;
     let mut n: u8 = 0;
     while n < nodes {
-        let entry = 1 <= group::tag(flight, t, n);
+        let entry = group::SENT <= group::tag(flight, t, n);
         ok = ok & (entry == group::involved(cells, masks, writes, reads, t, n));
         n = n + 1;
     }
@@ -38,7 +38,7 @@ fn empty(nodes: u8, flight: &[u64; 256], t: u8) -> bool
     let mut ok = true;
     let mut n: u8 = 0;
     while n < nodes {
-        ok = ok & (group::tag(flight, t, n) == 0);
+        ok = ok & (group::tag(flight, t, n) == group::IDLE);
         n = n + 1;
     }
     ok
@@ -58,11 +58,11 @@ pub(crate) fn spread_sound(
     requires { ⌜ (nodes ≤ 8) × (cells ≤ 32) × (t < 32) ⌝ }
     ensures { λ r. ⌜ r ≡ spreadSound stage (writer cells (now (writes .entry)) t) (isSpread nodes cells (now (masks .entry)) (now (flight .entry)) (now (writes .entry)) (now (reads .entry)) t) (isEmpty nodes (now (flight .entry)) t) ⌝ }
 {
-    if (stage == 4) | ((stage == 5) & group::writer(cells, writes, t)) {
+    if (stage == group::VOTING) | ((stage == group::COMMITTED) & group::writer(cells, writes, t)) {
         return spread(nodes, cells, masks, flight, writes, reads, t);
     }
     let none = empty(nodes, flight, t);
-    if stage == 6 {
+    if stage == group::ABORTED {
         return spread(nodes, cells, masks, flight, writes, reads, t) | none;
     }
     none
@@ -75,7 +75,7 @@ fn unlearned(nodes: u8, flight: &[u64; 256], t: u8) -> bool
     let mut ok = true;
     let mut n: u8 = 0;
     while n < nodes {
-        ok = ok & (group::tag(flight, t, n) < 4);
+        ok = ok & (group::tag(flight, t, n) < group::TO_APPLY);
         n = n + 1;
     }
     ok
@@ -93,7 +93,7 @@ pub(crate) fn voting_sound(
     ensures { λ r. ⌜ r ≡ votingSound nodes cells slot (now (flight .entry)) (now (writes .entry)) t ⌝ }
 {
     let st = slot.stage;
-    if group::stage_number(st) != 4 {
+    if group::stage_number(st) != group::VOTING {
         return true;
     }
     group::writer(cells, writes, t) & unlearned(nodes, flight, t)
@@ -106,9 +106,9 @@ fn final_at(last: u32, flight: &[u64; 256], t: u8, n: u8) -> bool
 {
     let k = group::tag(flight, t, n);
     let x = group::number(flight, t, n);
-    (!(1 <= k) | (3 <= k))
+    (!(group::SENT <= k) | (group::VOTED_YES <= k))
         & (!group::unfinished(flight, t, n) | (x <= last))
-        & (!(k == 4) | (x == last))
+        & (!(k == group::TO_APPLY) | (x == last))
 }
 
 fn finals(nodes: u8, last: u32, flight: &[u64; 256], t: u8) -> bool
@@ -131,7 +131,7 @@ fn unapplying(nodes: u8, flight: &[u64; 256], t: u8) -> bool
     let mut ok = true;
     let mut n: u8 = 0;
     while n < nodes {
-        ok = ok & (group::tag(flight, t, n) != 4);
+        ok = ok & (group::tag(flight, t, n) != group::TO_APPLY);
         n = n + 1;
     }
     ok
@@ -149,7 +149,7 @@ pub(crate) fn committed_sound(
     ensures { λ r. ⌜ r ≡ committedSound nodes cells slot (now (flight .entry)) (now (writes .entry)) t ⌝ }
 {
     let st = slot.stage;
-    if (group::stage_number(st) == 5) & group::writer(cells, writes, t) {
+    if (group::stage_number(st) == group::COMMITTED) & group::writer(cells, writes, t) {
         return finals(nodes, group::final_of(st), flight, t);
     }
     unapplying(nodes, flight, t)

@@ -44,7 +44,9 @@ fn entry_sound(nodes: u8, flight: &[u64; 256], t: u8, n: u8) -> bool
 {
     let k = group::tag(flight, t, n);
     let x = group::number(flight, t, n);
-    (k <= 5) & (group::unfinished(flight, t, n) | (x == 0)) & (!(nodes <= n) | (k == 0))
+    (k <= group::FINISHED)
+        & (group::unfinished(flight, t, n) | (x == 0))
+        & (!(nodes <= n) | (k == group::IDLE))
 }
 
 fn row_sound(nodes: u8, flight: &[u64; 256], t: u8) -> bool

@@ -28,8 +28,8 @@ fn places_sound(nodes: u8, cells: u8, masks: &[u8; 32], slot: Slot) -> bool
     let a = group::ask_of(st);
     let v = group::note_of(st);
     (slot.origin < nodes)
-        & (!(k == 2) | asked_sound(nodes, cells, masks, a.node, a.cell))
-        & (!(k == 3) | asked_sound(nodes, cells, masks, v.node, v.cell))
+        & (!(k == group::ASKING) | asked_sound(nodes, cells, masks, a.node, a.cell))
+        & (!(k == group::SERVED) | asked_sound(nodes, cells, masks, v.node, v.cell))
 }
 
 // One cell: written only by an update transaction, read only at a fixed snapshot, and neither outside the run.
@@ -78,7 +78,7 @@ pub(crate) fn slot_sound(
     ensures { λ r. ⌜ r ≡ slotSound nodes cells (now (masks .entry)) slot (now (writes .entry)) (now (reads .entry)) t ⌝ }
 {
     let st = slot.stage;
-    if group::stage_number(st) == 0 {
+    if group::stage_number(st) == group::UNUSED {
         return true;
     }
     places_sound(nodes, cells, masks, slot) & sets_sound(cells, slot, writes, reads, t)

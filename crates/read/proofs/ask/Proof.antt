@@ -6,8 +6,8 @@ use borrow.Author.Tests.{not-true, not-false}
 use borrow.Author.Needs.{needs}
 use Rattle.tables.proofs.Tests.{Passed, here, later}
 use Rattle.group.specs.State.{opened, inStage}
+use Rattle.group.proofs.Turns.{step-refused, step-cut, step-whole}
 use Rattle.read.specs.Read.{askTests}
-use Rattle.read.proofs.Laws.{stepped-refused, stepped-cut, stepped-whole}
 use Rattle.read.proofs.ask.Statement.{statement}
 use Rattle.read.proofs.ask.Tie as tie
 
@@ -29,7 +29,7 @@ open-is c = sym (c .before .before .in-stage .ensures) ∙ not-false _ (c .if1 .
 
 returns : tie.Need-returns
 unfolding askTests
-returns c = c .refused .ensures ∙ sym (stepped-refused _ _ _ _ _ _ (here (shut (c .before))))
+returns c = step-refused _ _ _ _ _ _ _ (here (shut (c .before))) (c .refused .ensures)
 
 refused-requires-2 : tie.Need-refused-requires-2
 refused-requires-2 c κs = search needs
@@ -37,8 +37,8 @@ refused-requires-2 c κs = search needs
 returns-2 : tie.Need-returns-2
 unfolding askTests
 returns-2 c =
-    c .refused2 .ensures
-    ∙ sym (stepped-refused _ _ _ _ _ _ (later (open-is (c .before .before)) (here (sym (c .before .before .before .may-ask .ensures) ∙ not-true _ (c .before .if2 .taken)))))
+    step-refused _ _ _ _ _ _ _ (later (open-is (c .before .before)) (here (sym (c .before .before .before .may-ask .ensures) ∙ not-true _ (c .before .if2 .taken))))
+    (c .refused2 .ensures)
 
 cut-at-requires : tie.Need-cut-at-requires
 cut-at-requires c κs = search needs
@@ -49,13 +49,13 @@ unfolding askTests
 passes c = (open-is (c .before), (sym (c .before .before .may-ask .ensures) ∙ not-false _ (c .if2 .left), tt))
 
 returns-3 : tie.Need-returns-3
-returns-3 c = c .cut-at .ensures ∙ sym (stepped-cut _ _ _ _ _ _ (passes (c .before .before)) (c .before .if3 .taken))
+returns-3 c = step-cut _ _ _ _ _ _ _ (passes (c .before .before)) (c .before .if3 .taken) (c .cut-at .ensures)
 
 asked-requires : tie.Need-asked-requires
 asked-requires c κs = search needs
 
 returns-4 : tie.Need-returns-4
-returns-4 c = c .asked .ensures ∙ sym (stepped-whole _ _ _ _ _ _ (passes (c .before .before)) (c .before .if3 .left))
+returns-4 c = step-whole _ _ _ _ _ _ _ (passes (c .before .before)) (c .before .if3 .left) (c .asked .ensures)
 
 pub ask-spec : {M : Type 1} → statement M
 ask-spec =

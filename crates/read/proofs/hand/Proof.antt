@@ -6,8 +6,9 @@ use borrow.Author.Tests.{not-true, not-false}
 use borrow.Author.Needs.{needs}
 use Rattle.tables.proofs.Tests.{Passed, here}
 use Rattle.group.specs.declared.Note.{Note}
+use Rattle.group.proofs.Turns.{step-refused, step-cut, step-whole, kept-refused, kept-cut, changed-whole}
 use Rattle.read.specs.Read.{returnTests, spoilt}
-use Rattle.read.proofs.Laws.{stepped-refused, stepped-cut, stepped-whole, changed-refused, changed-cut, changed-whole, return-aborts, return-hands, reads-stay, reads-join}
+use Rattle.read.proofs.Laws.{return-aborts, return-hands, reads-stay, reads-join}
 use Rattle.read.proofs.hand.Statement.{statement}
 use Rattle.read.proofs.hand.Tie as tie
 
@@ -19,7 +20,7 @@ refused-requires c κs = search needs
 
 returns : tie.Need-returns
 returns c = let f = sym (c .before .before .in-stage .ensures) ∙ not-true _ (c .before .if1 .taken) in
-    (c .refused .ensures ∙ sym (stepped-refused _ _ _ _ _ _ (here f)), sym (changed-refused _ _ _ _ (here f)))
+    (step-refused _ _ _ _ _ _ _ (here f) (c .refused .ensures), kept-refused _ _ _ _ (here f))
 
 -- past the refusal, the stage is the one needed
 passes : (c : tie.Else1) → Passed (returnTests (c .before .before .args .slot))
@@ -35,7 +36,7 @@ returns-2 : tie.Need-returns-2
 returns-2 c = let e = c .before .before .note-of .ensures in
     let p = passes (c .before .before .before) in
     let k = c .before .if2 .taken in
-    (c .cut-at .ensures ∙ rw e (sym (stepped-cut _ _ _ _ _ _ p k)), sym (changed-cut _ _ _ _ p k))
+    (step-cut _ _ _ _ _ _ _ p k (c .cut-at .ensures ∙ rw e), kept-cut _ _ _ _ p k)
 
 risen-requires : tie.Need-risen-requires
 risen-requires c κs = search needs
@@ -55,7 +56,7 @@ returns-3 c = let n = c .before .before .before .before .before .note-of .ensure
     let p = passes (c .before .before .before .before .before .before) in
     let k = c .before .before .before .before .if2 .left in
     let t = sym (told (c .before .before)) ∙ c .before .if3 .taken in
-    (rw (c .at-stage .ensures, c .before .before .before .risen .ensures, n) (sym (stepped-whole _ _ _ _ _ _ p k ∙ return-aborts _ _ t)), sym (changed-whole _ _ _ _ p k ∙ reads-stay _ _ _ t))
+    (step-whole _ _ _ _ _ _ _ p k (rw (c .at-stage .ensures, c .before .before .before .risen .ensures, n) (sym (return-aborts _ _ t))), changed-whole _ _ _ _ p k _ (sym (reads-stay _ _ _ t)))
 
 cast-set-note : tie.Need-cast-set-note
 cast-set-note c = search needs
@@ -72,7 +73,7 @@ returns-4 c =
     let p = passes (c .before .before .before .before .before .before .before .before) in
     let k = c .before .before .before .before .before .before .if2 .left in
     let t = sym (told (c .before .before .before .before)) ∙ c .before .before .before .if3 .left in
-    (rw (c .before .before .before .before .before .risen .ensures, n) (sym (stepped-whole _ _ _ _ _ _ p k ∙ return-hands _ _ t)), c .set-note .ensures ∙ rw n (sym (changed-whole _ _ _ _ p k ∙ reads-join _ _ _ t)))
+    (step-whole _ _ _ _ _ _ _ p k (rw (c .before .before .before .before .before .risen .ensures, n) (sym (return-hands _ _ t))), changed-whole _ _ _ _ p k _ (c .set-note .ensures ∙ rw n (sym (reads-join _ _ _ t))))
 
 pub hand-spec : {M : Type 1} → statement M
 hand-spec =

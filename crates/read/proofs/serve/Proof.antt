@@ -5,8 +5,9 @@ use borrow.Author.Tests.{not-true, not-false}
 use borrow.Author.Needs.{needs}
 use Rattle.tables.proofs.Tests.{Passed, here}
 use Rattle.group.specs.State.{askOf}
+use Rattle.group.proofs.Turns.{step-refused, step-cut, step-whole}
 use Rattle.read.specs.Read.{serveTests, readAt, blocked}
-use Rattle.read.proofs.Laws.{stepped-refused, stepped-cut, stepped-whole, serve-waits, serve-notes}
+use Rattle.read.proofs.Laws.{serve-waits, serve-notes}
 use Rattle.read.proofs.serve.Statement.{statement}
 use Rattle.read.proofs.serve.Tie as tie
 
@@ -17,7 +18,7 @@ refused-requires : tie.Need-refused-requires
 refused-requires c κs = search needs
 
 returns : tie.Need-returns
-returns c = c .refused .ensures ∙ sym (stepped-refused _ _ _ _ _ _ (here (sym (c .before .before .in-stage .ensures) ∙ not-true _ (c .before .if1 .taken))))
+returns c = step-refused _ _ _ _ _ _ _ (here (sym (c .before .before .in-stage .ensures) ∙ not-true _ (c .before .if1 .taken))) (c .refused .ensures)
 
 -- past the refusal, the stage is the one needed
 passes : (c : tie.Else1) → Passed (serveTests (c .before .before .args .slot))
@@ -35,7 +36,7 @@ cut-at-requires c κs = search needs
 returns-2 : tie.Need-returns-2
 returns-2 c = let s = c .before .before .read-at .ensures in
     let a = c .before .before .before .ask-of .ensures in
-    c .cut-at .ensures ∙ rw (s, a) (sym (stepped-cut _ _ _ _ _ _ (passes (c .before .before .before .before)) (c .before .if2 .taken)))
+    step-cut _ _ _ _ _ _ _ (passes (c .before .before .before .before)) (c .before .if2 .taken) (c .cut-at .ensures ∙ rw (s, a))
 
 risen-requires : tie.Need-risen-requires
 risen-requires c κs = search needs
@@ -59,8 +60,8 @@ returns-3 : tie.Need-returns-3
 returns-3 c = let s = c .before .before .before .before .before .before .read-at .ensures in
     let a = c .before .before .before .before .before .before .before .ask-of .ensures in
     let b = sym (told (c .before .before .before)) ∙ c .before .before .if3 .taken in
-    rw (c .at-stage .ensures, c .before .wait-for .ensures, c .before .before .before .before .risen .ensures, s, a)
-    (sym (stepped-whole _ _ _ _ _ _ (passes (c .before .before .before .before .before .before .before .before)) (c .before .before .before .before .before .if2 .left) ∙ serve-waits _ _ _ _ _ b))
+    step-whole _ _ _ _ _ _ _ (passes (c .before .before .before .before .before .before .before .before)) (c .before .before .before .before .before .if2 .left)
+    (rw (c .at-stage .ensures, c .before .wait-for .ensures, c .before .before .before .before .risen .ensures, s, a) (sym (serve-waits _ _ _ _ _ b)))
 
 note-for-requires : tie.Need-note-for-requires
 note-for-requires c κs = search needs
@@ -72,8 +73,8 @@ returns-4 : tie.Need-returns-4
 returns-4 c = let s = c .before .before .before .before .before .before .read-at .ensures in
     let a = c .before .before .before .before .before .before .before .ask-of .ensures in
     let b = sym (told (c .before .before .before)) ∙ c .before .before .if3 .left in
-    rw (c .at-stage2 .ensures, c .before .note-for .ensures, c .before .before .before .before .risen .ensures, s, a)
-    (sym (stepped-whole _ _ _ _ _ _ (passes (c .before .before .before .before .before .before .before .before)) (c .before .before .before .before .before .if2 .left) ∙ serve-notes _ _ _ _ _ b))
+    step-whole _ _ _ _ _ _ _ (passes (c .before .before .before .before .before .before .before .before)) (c .before .before .before .before .before .if2 .left)
+    (rw (c .at-stage2 .ensures, c .before .note-for .ensures, c .before .before .before .before .risen .ensures, s, a) (sym (serve-notes _ _ _ _ _ b)))
 
 pub serve-spec : {M : Type 1} → statement M
 serve-spec =

@@ -7,7 +7,7 @@ use borrow.Author.Needs.{needs}
 use Rattle.tables.specs.Table.{put}
 use Rattle.little.specs.Little.{resultOf}
 use Rattle.runfile.proofs.Parts.{number-there}
-use Rattle.runfile.proofs.Reading.{CellsSo, cells-start, cells-turn, cells-cut, cells-bad, cells-end}
+use Rattle.runfile.proofs.Sections.{CellsSo, cells-start, cells-turn, cells-cut, cells-bad, cells-end}
 use Rattle.runfile.proofs.read.cells_in.Statement.{statement}
 use Rattle.runfile.proofs.read.cells_in.Tie as tie
 

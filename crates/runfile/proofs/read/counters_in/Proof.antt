@@ -6,7 +6,7 @@ use native.Mathlib.Omega.{arith}
 use borrow.Author.Needs.{needs}
 use Rattle.tables.specs.Table.{put}
 use Rattle.little.specs.Little.{resultOf}
-use Rattle.runfile.proofs.Reading.{CountersSo, counters-start, counters-turn, counters-cut, counters-end}
+use Rattle.runfile.proofs.Sections.{CountersSo, counters-start, counters-turn, counters-cut, counters-end}
 use Rattle.runfile.proofs.read.counters_in.Statement.{statement}
 use Rattle.runfile.proofs.read.counters_in.Tie as tie
 

@@ -6,7 +6,7 @@ use native.Mathlib.Omega.{arith}
 use borrow.Author.Tests.{not-true, not-false}
 use borrow.Author.Needs.{needs}
 use Rattle.runfile.specs.Parts.{takenOf}
-use Rattle.runfile.proofs.Reading.{StepsSo, steps-start, steps-turn, steps-cut, steps-bad, steps-end}
+use Rattle.runfile.proofs.Sections.{StepsSo, steps-start, steps-turn, steps-cut, steps-bad, steps-end}
 use Rattle.runfile.proofs.read.steps_fault.Statement.{statement}
 use Rattle.runfile.proofs.read.steps_fault.Tie as tie
 
