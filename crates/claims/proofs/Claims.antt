@@ -3,8 +3,9 @@
 -- Assumes nothing.
 use mathlib.Core.Path.{_≡_, refl}
 use mathlib.Core.Logic.{_≢_}
-use mathlib.Core.List.{List, []}
-use mathlib.Core.Option.{Option}
+use mathlib.Core.List.{List, [], map}
+use mathlib.Core.Bool.{true}
+use mathlib.Core.Option.{Option, some}
 use Prim.Native.Nat.{ℕ, _+_, _^_, _≤_, _<_}
 use lib.ListN.{length, getD, take, drop}
 use Rattle.tables.specs.Table.{at}
@@ -20,9 +21,14 @@ use Rattle.score.specs.Parts.{reached}
 use Rattle.score.proofs.WholeLaws.{step-only}
 use Rattle.score.specs.Desk.{Desk}
 use Rattle.score.specs.Steps.{does, cuts, stepWhole, stepOf}
-use Rattle.little.proofs.Laws.{Bytes}
-use Rattle.runfile.specs.File.{File, got, bytesOf, readFile}
-use Rattle.runfile.proofs.BothWays.{Sound, read-written, written-read, one-run, one-file, Outcome, outcome}
+use Rattle.little.specs.Little.{fits, numberAt, stored}
+use Rattle.little.proofs.Laws.{Bytes, number-stored, stored-before, stored-past}
+use Rattle.runfile.specs.File.{File, got, fault, bytesOf, readFile}
+use Rattle.runfile.specs.Head.{headOf}
+use Rattle.runfile.proofs.BothWays.{Sound, read-written, written-read, one-run, one-file, Outcome, outcome, not-both-ways, one-fault}
+use Rattle.runwrite.specs.Writing.{wordOf, stepOf as stepIn, fileOf}
+use Rattle.runwrite.proofs.Back.{file-back}
+use Rattle.runwrite.proofs.Judging.{word-step}
 use Rattle.runfile.proofs.Longer.{longer-input}
 use Rattle.text.specs.Text.{decimal, placed}
 use Rattle.text.proofs.Digits.{decimal-first, decimal-only}
@@ -95,6 +101,28 @@ one-file-a-run = one-file
 -- Any bytes are the file of a sound run, or have one fault of 32 to 36.
 pub sound-or-faulty : (b : List ℕ) → Bytes b → Outcome b
 sound-or-faulty = outcome
+
+-- Never both, and never two faults.
+pub never-both : (f : File) (c : ℕ) → Sound f → readFile (bytesOf f) ≡ fault c → ⊥
+never-both = not-both-ways
+
+pub one-fault-only : (b : List ℕ) (c d : ℕ) → readFile b ≡ fault c → readFile b ≡ fault d → c ≡ d
+one-fault-only = one-fault
+
+-- Every sound run can be handed to the writer, as its head and its steps' numbers; a number of eight bytes is one step's.
+pub every-run-written : (f : File) → Sound f → fileOf (headOf f) (map wordOf (f .steps)) ≡ f
+every-run-written = file-back
+
+pub one-number-a-step : (w : ℕ) → wordOf (stepIn w) ≡ w
+one-number-a-step = word-step
+
+-- What storing a number of k bytes means: it is read back from there, and every byte before it and past it is as it was.
+pub stored-means :
+    (out : List ℕ) (i k x : ℕ)
+    → (fits (length out) i k ≡ true → x < 256 ^ k → numberAt (stored out i k x) i k ≡ some x)
+    × ((n : ℕ) → n ≤ i → take n (stored out i k x) ≡ take n out)
+    × ((n : ℕ) → i + k ≤ n → drop n (stored out i k x) ≡ drop n out)
+stored-means out i k x = (number-stored out i k x, stored-before out i k x, stored-past out i k x)
 
 -- An input longer than the longest file is judged by its first 32,965 bytes, which is all that the run program reads.
 pub longer-judged : (b : List ℕ) → 32965 ≤ length b → readFile (take 32965 b) ≡ readFile b

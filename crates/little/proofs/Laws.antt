@@ -4,7 +4,7 @@ use mathlib.Core.Path.{_≡_, refl, sym, ap, ap₂, _∙_}
 use Prim.Native.Nat.{ℕ, zero, suc, _+_, _*_, _-_, _/_, _%_, _^_, _≤_, _<_}
 use mathlib.Core.Bool.{true, false, _&&_}
 use mathlib.Core.List.{List, [], _∷_, _++_, append-assoc}
-use mathlib.Core.Option.{none, some, Option·some-ne-none}
+use mathlib.Core.Option.{none, some}
 use native.Mathlib.Nat.{le-of-eq, add-zero, sub-zero, pow-succ', pow-le-pow-right}
 use native.Mathlib.Omega.{arith}
 use lib.Dec.{leb, lit<}
@@ -132,16 +132,6 @@ bytes-part s i k h j l =
     let n = length-drop i s in
     let p : j < k = omega arith in
     rw (getD-take, getD-drop) (h (i + j) (omega arith))
-
--- a number of k bytes is below 256 ^ k
-pub number-low : (s : List ℕ) (i k x : ℕ) → Bytes s → numberAt s i k ≡ some x → x < 256 ^ k
-number-low s i k x h e =
-    by-test (fits (length s) i k)
-    (λ t. let q : x ≡ little (take k (drop i s)) = cc (number-in s i k t) in
-    let l = fits-true (length s) i k t in
-    let m : length (take k (drop i s)) ≡ k = length-take-le k _ (omega (arith, length-drop i s)) in
-    rw q (rw m at (little-low _ (bytes-part s i k h))))
-    (λ t. absurd (Option·some-ne-none x (sym e ∙ number-out s i k t)))
 
 -- one byte more below x
 pub low-next : (j k b x : ℕ) → 0 < j → j ≤ k → b < 256 → x < 256 ^ (k - j) → b + 256 * x < 256 ^ (k - (j - 1))

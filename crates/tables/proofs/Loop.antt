@@ -16,7 +16,7 @@ use borrow.Author.Tests.{ltb-true, ltb-false}
 use Rattle.tables.specs.Table.{at, put}
 use Rattle.tables.specs.Loop.{any, every, turns, largest, lastAt, lesser, leastAt, each}
 use Rattle.tables.proofs.Choice.{not-both, by-test, not-not, or-false, or-true}
-use Rattle.tables.proofs.Table.{put-size, put-same, put-other, put-at}
+use Rattle.tables.proofs.Table.{put-size, put-same, put-other}
 
 -- what a loop has come to when it ends
 pub at-end : {A : Type 0} (g : ℕ → A) (i k : ℕ) {x : A} → i ≤ k → k ≤ i → x ≡ g i → x ≡ g k
@@ -126,12 +126,6 @@ module _ (p : ℕ → Bool) where
   unfolding every
   every-all zero h = refl
   every-all (suc k) h = rw (every-all k (λ i l. h i (omega arith)), h k (omega arith))
-
-pub every-where : (k : ℕ) (p : ℕ → Bool) → every k p ≡ false → Where k p false
-every-where k p e = down (any-where k (λ i. not (p i)) (sym (not-not _) ∙ ap not (sym (every-any k p) ∙ e)))
-  where
-    down : Where k (λ i. not (p i)) true → Where k p false
-    down (found i h q) = found i h (sym (not-not (p i)) ∙ ap not q)
 
 pub every-same : (k : ℕ) (p q : ℕ → Bool) → ((i : ℕ) → i < k → p i ≡ q i) → every k p ≡ every k q
 every-same k p q h = every-any k p ∙ ap not (any-same k _ _ (λ i l. ap not (h i l))) ∙ sym (every-any k q)
@@ -279,10 +273,6 @@ module _ {A : Type 0} (d : A) (place : ℕ → ℕ) (f : ℕ → A → A) (l : L
   pub each-next : (k : ℕ) → each d (k + 1) place f l ≡ put (each d k place f l) (place k) (f k (at (each d k place f l) (place k) d))
   unfolding each
   each-next k = turns-next _ _ k
-
-  -- a turn that leaves what stands there
-  pub each-skip : (k : ℕ) → ((x : A) → f k x ≡ x) → each d (k + 1) place f l ≡ each d k place f l
-  each-skip k e = each-next k ∙ ap (put _ _) (e _) ∙ put-at _ _ _
 
   pub each-size : (k : ℕ) → length (each d k place f l) ≡ length l
   unfolding each
