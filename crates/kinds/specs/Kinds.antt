@@ -1,9 +1,9 @@
 -- The kinds of step and the fields that each uses, as the paper's table of steps has them.
 -- Assumes nothing.
-use Prim.Native.Nat.{ℕ, _-_, _%_}
+use Prim.Native.Nat.{ℕ, _-_, _/_, _%_}
 use mathlib.Core.Bool.{Bool, true, false, cond, _&&_}
 use mathlib.Core.List.{List, [], _∷_}
-use lib.Dec.{leb}
+use lib.Dec.{leb, eqb}
 use Rattle.kinds.specs.declared.Fields.{Fields}
 use Rattle.tables.specs.Table.{at}
 
@@ -35,6 +35,10 @@ table =
     ∷ uses false true false false  -- 12 advance: n
     ∷ uses true false false false  -- 13 abandon: T
     ∷ []
+
+-- a row as one number, a bit for each field
+abbrev pub fieldsOf : ℕ → Fields
+fieldsOf row = uses (eqb (row % 2) 1) (eqb (row / 2 % 2) 1) (eqb (row / 4 % 2) 1) (eqb (row / 8 % 2) 1)
 
 -- the kind of the whole step: kind plus 128 is the step cut by power loss
 abbrev pub wholeOf : ℕ → ℕ

@@ -2,7 +2,7 @@
 // writer all go by this one table.
 ghost use mathlib.Core.Path.{_≡_};
 ghost use lib.Dec.{leb};
-ghost use Rattle.kinds.specs.Kinds.{wholeOf, isKnown, usesOf};
+ghost use Rattle.kinds.specs.Kinds.{wholeOf, isKnown, fieldsOf, usesOf};
 
 pub struct Step {
     pub kind: u8,
@@ -19,66 +19,26 @@ pub struct Fields {
     pub value: bool,
 }
 
-const NOTHING: Fields = Fields {
-    slot: false,
-    node: false,
-    cell: false,
-    value: false,
-};
+// A row of the table has a bit for each field that is used: rows of one byte, since the table is laid out anew wherever it is read.
+const SLOT: u8 = 1;
 
-const SLOT: Fields = Fields {
-    slot: true,
-    node: false,
-    cell: false,
-    value: false,
-};
+const NODE: u8 = 2;
 
-const NODE: Fields = Fields {
-    slot: false,
-    node: true,
-    cell: false,
-    value: false,
-};
+const CELL: u8 = 4;
 
-const SLOT_NODE: Fields = Fields {
-    slot: true,
-    node: true,
-    cell: false,
-    value: false,
-};
+const VALUE: u8 = 8;
 
-const SLOT_NODE_VALUE: Fields = Fields {
-    slot: true,
-    node: true,
-    cell: false,
-    value: true,
-};
-
-const SLOT_CELL_VALUE: Fields = Fields {
-    slot: true,
-    node: false,
-    cell: true,
-    value: true,
-};
-
-const SLOT_NODE_CELL: Fields = Fields {
-    slot: true,
-    node: true,
-    cell: true,
-    value: false,
-};
-
-const USES: [Fields; 13] = [
-    SLOT_NODE_VALUE, // 1 begin
-    SLOT_CELL_VALUE, // 2 write
-    SLOT_NODE_CELL, // 3 ask
+const USES: [u8; 13] = [
+    SLOT + NODE + VALUE, // 1 begin
+    SLOT + CELL + VALUE, // 2 write
+    SLOT + NODE + CELL, // 3 ask
     SLOT, // 4 serve
     SLOT, // 5 return
     SLOT, // 6 commit
-    SLOT_NODE, // 7 prepare
+    SLOT + NODE, // 7 prepare
     SLOT, // 8 decide
     SLOT, // 9 give up
-    SLOT_NODE, // 10 learn
+    SLOT + NODE, // 10 learn
     NODE, // 11 apply
     NODE, // 12 advance
     SLOT, // 13 abandon
@@ -105,12 +65,24 @@ pub fn known(kind: u8) -> bool
     1 <= k && k <= 13
 }
 
+// The fields whose bits a row has.
+fn of_row(row: u8) -> Fields
+    ensures { λ r. ⌜ r ≡ fieldsOf row ⌝ }
+{
+    Fields {
+        slot: row % 2 == 1,
+        node: row / 2 % 2 == 1,
+        cell: row / 4 % 2 == 1,
+        value: row / 8 % 2 == 1,
+    }
+}
+
 // Takes any byte: a cut kind uses what the whole one does, an unknown one nothing.
 pub fn uses(kind: u8) -> Fields
     ensures { λ r. ⌜ r ≡ usesOf kind ⌝ }
 {
     if known(kind) {
-        return USES[(kind % 128 - 1) as usize];
+        return of_row(USES[(kind % 128 - 1) as usize]);
     }
-    NOTHING
+    of_row(0)
 }

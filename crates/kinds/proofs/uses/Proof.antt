@@ -3,33 +3,43 @@
 use mathlib.Core.Path.{sym, _∙_}
 use native.Mathlib.Omega.{arith}
 use borrow.Author.Needs.{needs}
-use Rattle.tables.specs.Table.{at}
-use Rattle.kinds.proofs.Laws.{known-range, uses-known, uses-unknown}
+use Rattle.kinds.proofs.Laws.{known-range, uses-known, uses-unknown, row-is}
 use Rattle.kinds.proofs.uses.Statement.{statement}
 use Rattle.kinds.proofs.uses.Tie as tie
 
 known-requires : tie.Need-known-requires
 known-requires c κs = search needs
 
-sub-result : tie.Need-sub-result
-sub-result c = known-range _ (sym (c .before .known .ensures) ∙ c .if1 .taken) .0
+sub-of-row : tie.Need-sub-of-row
+sub-of-row c = known-range _ (sym (c .before .known .ensures) ∙ c .if1 .taken) .0
 
-cast-result : tie.Need-cast-result
-cast-result c = search needs
+cast-of-row : tie.Need-cast-of-row
+cast-of-row c = search needs
 
-mul-result : tie.Need-mul-result
-mul-result c = search needs
+array-read-of-row : tie.Need-array-read-of-row
+array-read-of-row c = omega (arith, known-range (c .before .before .args .kind) (sym (c .before .known .ensures) ∙ c .if1 .taken))
 
-array-copy-out-result : tie.Need-array-copy-out-result
-array-copy-out-result c = omega (arith, known-range (c .before .before .args .kind) (sym (c .before .known .ensures) ∙ c .if1 .taken))
+of-row-requires : tie.Need-of-row-requires
+of-row-requires c κs = search needs
 
 returns : tie.Need-returns
-unfolding at
-returns c = sym (uses-known _ (sym (c .before .before .known .ensures) ∙ c .before .if1 .taken))
+returns c = c .of-row .ensures ∙ row-is _ ∙ sym (uses-known _ (sym (c .before .before .known .ensures) ∙ c .before .if1 .taken))
+
+of-row-requires-2 : tie.Need-of-row-requires-2
+of-row-requires-2 c κs = search needs
 
 returns-2 : tie.Need-returns-2
-returns-2 c = sym (uses-unknown _ (sym (c .before .known .ensures) ∙ c .if1 .left))
+returns-2 c = c .of-row2 .ensures ∙ sym (uses-unknown _ (sym (c .before .before .known .ensures) ∙ c .before .if1 .left))
 
 pub uses-spec : {M : Type 1} → statement M
 uses-spec =
-    tie.close (tie.spec known-requires sub-result cast-result mul-result array-copy-out-result returns returns-2)
+    tie.close
+    (tie.spec
+    known-requires
+    sub-of-row
+    cast-of-row
+    array-read-of-row
+    of-row-requires
+    returns
+    of-row-requires-2
+    returns-2)
