@@ -8,7 +8,7 @@
  * another. Standard output gets a table of what was seen; the exit status is 1
  * if some answer, refusal, fault or reason of a no vote was never seen.
  *
- *     makeruns yardstick SORT FILE
+ *     makeruns yardstick SEED SORT FILE
  *
  * makes one run of a sort that is timed, and prints what its steps answer.
  *
@@ -94,8 +94,8 @@ enum { LONG = 8, DAMAGED, PREFIXES, FIELDS, PLACES, EXAMPLES };
 /* Runs to be timed. No step of theirs is cut: the plain program copies its
  * whole state for one, and would look slower than plain C has to be. */
 static const struct sort yardsticks[] = {
-    { "busy", 1, {8, 8}, {32, 32}, {4096, 4096}, SMALL, 5, 10,
-      30, 68, 2, 50, 0, 0, 60 },
+    { "busy", 1, {8, 8}, {32, 32}, {4096, 4096}, SMALL, 20, 10,
+      30, 69, 1, 75, 0, 0, 20 },
     { "refused", 1, {8, 8}, {32, 32}, {4096, 4096}, SMALL, 4, 6,
       30, 35, 30, 70, 0, 95, 40 },
 };
@@ -285,7 +285,7 @@ static struct step tidy(struct step x)
 }
 
 /* A step picked blindly: mostly near the run's ranges, sometimes far off. */
-static struct step blind(const struct state *st)
+static struct step blind(const struct sort *how, const struct state *st)
 {
     struct step x;
     bool far = chance(10);
@@ -324,6 +324,8 @@ static struct step blind(const struct state *st)
         x.slot = (uint8_t)below(256);
     if (far && chance(30))
         x.cell = (uint8_t)below(256);
+    if (!how->cut)
+        x.kind &= CUT - 1;
     return tidy(x);
 }
 
@@ -403,7 +405,7 @@ static struct run some_run(const struct sort *how)
             x = telling(&st, x);
             as_it_is = x.kind != 0;
         } else if (chance(how->blind)) {
-            x = blind(&st);
+            x = blind(how, &st);
             as_it_is = true;
         }
         /* The others suit: a refused step changes nothing, so try. */
@@ -415,7 +417,7 @@ static struct run some_run(const struct sort *how)
             if (a.code < 16)
                 break;
             if (tries == 300) {
-                x = blind(&st);
+                x = blind(how, &st);
                 as_it_is = idle = true;
             }
         }
@@ -797,13 +799,13 @@ int main(int argc, char **argv)
     static uint8_t b[ROOM];
     bool full;
 
-    if (argc == 4 && strcmp(argv[1], "yardstick") == 0) {
-        seed("1");
-        return yardstick(argv[2], argv[3]);
+    if (argc == 5 && strcmp(argv[1], "yardstick") == 0) {
+        seed(argv[2]);
+        return yardstick(argv[3], argv[4]);
     }
     if (argc < 4) {
         fprintf(stderr, "usage: makeruns SEED BATCH EXPECTED EXAMPLE...\n"
-                        "       makeruns yardstick SORT FILE\n");
+                        "       makeruns yardstick SEED SORT FILE\n");
         return 2;
     }
     seed(argv[1]);
