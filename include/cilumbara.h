@@ -9,7 +9,8 @@
  * contracts). What the proof takes for granted, and C can't check, is that
  * each pointer is not null, even where the length is 0, that so many bytes
  * stand there, and that nobody else touches them during the call. `out` may
- * not overlap `file`.
+ * not overlap `file`. And that the stack has room: about 40 KB for a replay,
+ * 34 KB for writing anew, 1 KB for a check.
  */
 #ifndef CILUMBARA_H
 #define CILUMBARA_H
