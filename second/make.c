@@ -1,12 +1,16 @@
 /*
  * Makes a batch of runs from a seed:
  *
- *     makeruns SEED BATCH EXPECTED
+ *     makeruns SEED BATCH EXPECTED EXAMPLE...
  *
- * BATCH gets every run file after its length (4 bytes little-endian), EXPECTED
- * what the run program prints for each, one after another. Standard output
- * gets a table of what was seen; the exit status is 1 if some answer, refusal,
- * fault or reason of a no vote was never seen.
+ * BATCH gets every run file after its length (4 bytes little-endian), the
+ * examples last, EXPECTED what the run program prints for each, one after
+ * another. Standard output gets a table of what was seen; the exit status is 1
+ * if some answer, refusal, fault or reason of a no vote was never seen.
+ *
+ *     makeruns yardstick SEED SORT FILE
+ *
+ * makes one run of a sort that is timed, and prints what its steps answer.
  *
  * Steps taken blindly are nearly all refused. So each run is made while a
  * model state runs along: most steps are picked to suit that state and tried
@@ -81,9 +85,21 @@ static const struct sort sorts[] = {
       30, 35, 33, 80, 10, 10, 30 },
     { "prefixes", 0, {0, 0}, {0, 0}, {0, 0}, ZERO, 0, 0, 0, 0, 0, 0, 0, 0, 0 },
     { "fields", 0, {0, 0}, {0, 0}, {0, 0}, ZERO, 0, 0, 0, 0, 0, 0, 0, 0, 0 },
+    { "places", 0, {0, 0}, {0, 0}, {0, 0}, ZERO, 0, 0, 0, 0, 0, 0, 0, 0, 0 },
+    { "examples", 0, {0, 0}, {0, 0}, {0, 0}, ZERO, 0, 0, 0, 0, 0, 0, 0, 0, 0 },
 };
 enum { SORTS = sizeof sorts / sizeof sorts[0] };
-enum { LONG = 8, DAMAGED, PREFIXES, FIELDS };   /* their places above */
+enum { LONG = 8, DAMAGED, PREFIXES, FIELDS, PLACES, EXAMPLES };
+
+/* Runs to be timed. No step of theirs is cut: the plain program copies its
+ * whole state for one, and would look slower than plain C has to be. */
+static const struct sort yardsticks[] = {
+    { "busy", 1, {8, 8}, {32, 32}, {4096, 4096}, SMALL, 20, 10,
+      30, 69, 1, 75, 0, 0, 20 },
+    { "refused", 1, {8, 8}, {32, 32}, {4096, 4096}, SMALL, 4, 6,
+      30, 35, 30, 70, 0, 95, 40 },
+};
+enum { YARDSTICKS = sizeof yardsticks / sizeof yardsticks[0] };
 
 /* ---- Counting, and putting out ------------------------------------------- */
 
@@ -269,7 +285,7 @@ static struct step tidy(struct step x)
 }
 
 /* A step picked blindly: mostly near the run's ranges, sometimes far off. */
-static struct step blind(const struct state *st)
+static struct step blind(const struct sort *how, const struct state *st)
 {
     struct step x;
     bool far = chance(10);
@@ -308,6 +324,8 @@ static struct step blind(const struct state *st)
         x.slot = (uint8_t)below(256);
     if (far && chance(30))
         x.cell = (uint8_t)below(256);
+    if (!how->cut)
+        x.kind &= CUT - 1;
     return tidy(x);
 }
 
@@ -387,7 +405,7 @@ static struct run some_run(const struct sort *how)
             x = telling(&st, x);
             as_it_is = x.kind != 0;
         } else if (chance(how->blind)) {
-            x = blind(&st);
+            x = blind(how, &st);
             as_it_is = true;
         }
         /* The others suit: a refused step changes nothing, so try. */
@@ -399,7 +417,7 @@ static struct run some_run(const struct sort *how)
             if (a.code < 16)
                 break;
             if (tries == 300) {
-                x = blind(&st);
+                x = blind(how, &st);
                 as_it_is = idle = true;
             }
         }
@@ -425,7 +443,7 @@ static size_t to_bytes(const struct run *run, uint8_t *bytes, size_t room)
 
 /* ---- Damaged files --------------------------------------------------------- */
 
-enum { ROOM = LONGEST + 400 };
+enum { ROOM = 40000 };
 
 /* Spoil a file (sound up to now, or spoilt before) and give its length. */
 static size_t damage(uint8_t *b, size_t length, const struct run *run)
@@ -576,6 +594,118 @@ static void fields(void)
         }
 }
 
+/* ---- Every fault at every place -------------------------------------------- */
+
+/* A file of plain items, as many as asked for, within the limits or not. It
+ * says `count` steps and has `steps`; each is an advance of node 0. */
+static size_t plain_file(uint8_t *b, unsigned nodes, unsigned cells,
+                         unsigned count, unsigned steps)
+{
+    uint8_t *at = b;
+
+    memset(b, 0, ROOM);
+    *at = (uint8_t)nodes;
+    at += 1 + 4 * nodes;
+    *at++ = (uint8_t)cells;
+    for (unsigned c = 0; c < cells; c++, at += 5)
+        *at = 1;
+    *at++ = (uint8_t)count;
+    *at++ = (uint8_t)(count >> 8);
+    for (unsigned i = 0; i < steps; i++, at += STEP_BYTES)
+        *at = ADVANCE;
+    return (size_t)(at - b);
+}
+
+/* As it is, and with one byte left over. */
+static void put_both(uint8_t *b, size_t length)
+{
+    put_out(PLACES, b, length);
+    put_out(PLACES, b, length + 1);
+}
+
+/* Each count at its limits and one beyond, with what it counts and without. */
+static void count_limits(void)
+{
+    static const unsigned nodes[] = { 0, 1, 8, 9, 255 },
+                          cells[] = { 0, 1, 32, 33, 255 },
+                          steps[] = { 0, 1, 4095, 4096, 4097, 65535 };
+    static uint8_t b[ROOM];
+
+    for (unsigned i = 0; i < sizeof nodes / sizeof *nodes; i++) {
+        put_both(b, plain_file(b, nodes[i], 2, 3, 3));
+        put_out(PLACES, b, 1);
+    }
+    for (unsigned i = 0; i < sizeof cells / sizeof *cells; i++) {
+        put_both(b, plain_file(b, 2, cells[i], 3, 3));
+        put_out(PLACES, b, 1 + 8 + 1);
+    }
+    for (unsigned i = 0; i < sizeof steps / sizeof *steps; i++) {
+        unsigned there = steps[i] < 4097 ? steps[i] : 4097;
+
+        put_both(b, plain_file(b, 2, 2, steps[i], there));
+        put_both(b, plain_file(b, 2, 2, steps[i], 0));
+    }
+}
+
+/* A mask of 0 and each bit of no node, at each cell: few cells for every count
+ * of nodes, and all the cells there can be. */
+static void mask_places(void)
+{
+    static uint8_t b[ROOM];
+
+    for (unsigned nodes = 1; nodes <= NODES; nodes++) {
+        unsigned cells = nodes == 3 ? CELLS : 4;
+
+        for (unsigned c = 0; c < cells; c++)
+            for (unsigned n = nodes; n <= NODES; n++) {
+                size_t length = plain_file(b, nodes, cells, 2, 2);
+
+                /* the last turn is the mask that names nobody */
+                b[1 + 4 * nodes + 1 + 5 * c] =
+                    n < NODES ? (uint8_t)(1u << n | 1) : 0;
+                put_out(PLACES, b, length);
+            }
+    }
+}
+
+/* A field that isn't used, at each step: alone, before an end that is missing,
+ * and before a byte left over. */
+static void field_places(void)
+{
+    static uint8_t b[ROOM];
+
+    for (unsigned i = 0; i < 20; i++)
+        for (unsigned at = 1; at < STEP_BYTES; at++) {
+            size_t length = plain_file(b, 2, 2, 20, 20);
+
+            b[length - STEP_BYTES * (20 - i) + at] = 1;
+            put_both(b, length);
+            put_out(PLACES, b, length - 1);
+        }
+}
+
+static void places(void)
+{
+    count_limits();
+    mask_places();
+    field_places();
+}
+
+/* ---- The examples ---------------------------------------------------------- */
+
+static void example(const char *name)
+{
+    static uint8_t b[ROOM];
+    FILE *file = fopen(name, "rb");
+
+    if (!file) {
+        fprintf(stderr, "makeruns: can't read %s\n", name);
+        exit(2);
+    }
+    put_out(EXAMPLES, b, fread(b, 1, sizeof b, file));
+    fclose(file);
+}
+
 /* ---- The table ------------------------------------------------------------- */
 
 static bool line(const char *name, unsigned index, unsigned which)
@@ -623,18 +753,62 @@ static bool table(void)
     return full;
 }
 
+/* ---- A run to be timed ----------------------------------------------------- */
+
+static void seed(const char *digits)
+{
+    /* Spread the seed's bits; xorshift must not start at 0. */
+    luck = (strtoull(digits, NULL, 10) + 1) * 0x9e3779b97f4a7c15u;
+    luck |= 1;
+}
+
+static void print_answers(const uint8_t *bytes, size_t length)
+{
+    static struct tally seen;
+    FILE *nowhere = fopen("/dev/null", "wb");
+
+    if (!nowhere || play(bytes, length, nowhere, count, &seen) != 0)
+        exit(2);
+    fclose(nowhere);
+    printf("%u steps; code and how often:", seen.steps);
+    for (unsigned code = 0; code <= 24; code++)
+        if (seen.seen[code])
+            printf(" %u: %u,", code, seen.seen[code]);
+    printf(" writers committed: %u\n", seen.seen[WRITERS]);
+}
+
+static int yardstick(const char *name, const char *path)
+{
+    static uint8_t b[ROOM];
+    FILE *file = fopen(path, "wb");
+
+    for (unsigned y = 0; file && y < YARDSTICKS; y++)
+        if (strcmp(name, yardsticks[y].name) == 0) {
+            struct run run = some_run(&yardsticks[y]);
+            size_t length = to_bytes(&run, b, sizeof b);
+
+            print_answers(b, length);
+            return fwrite(b, 1, length, file) != length || fclose(file);
+        }
+    fprintf(stderr, "makeruns: no such sort, or can't write\n");
+    return 2;
+}
+
 int main(int argc, char **argv)
 {
     static uint8_t b[ROOM];
     bool full;
 
-    if (argc != 4) {
-        fprintf(stderr, "usage: makeruns SEED BATCH EXPECTED\n");
+    if (argc == 5 && strcmp(argv[1], "yardstick") == 0) {
+        seed(argv[2]);
+        return yardstick(argv[3], argv[4]);
+    }
+    if (argc < 4) {
+        fprintf(stderr, "usage: makeruns SEED BATCH EXPECTED EXAMPLE...\n"
+                        "       makeruns yardstick SEED SORT FILE\n");
         return 2;
     }
-    /* Spread the seed's bits; xorshift must not start at 0. */
-    luck = (strtoull(argv[1], NULL, 10) + 1) * 0x9e3779b97f4a7c15u;
-    luck |= 1;
+    seed(argv[1]);
     batch = fopen(argv[2], "wb");
     expected = fopen(argv[3], "wb");
     if (!batch || !expected) {
@@ -651,6 +825,9 @@ int main(int argc, char **argv)
     damaged_files();
     prefixes();
     fields();
+    places();
+    for (int i = 4; i < argc; i++)
+        example(argv[i]);
     full = table();
     if (ferror(batch) || ferror(expected)) {
         fprintf(stderr, "makeruns: can't write\n");

@@ -10,10 +10,11 @@ int main(void)
     /* One byte beyond the longest file: no fault but 36 lies further on, and
      * for 36 one byte left over says as much as many. */
     static uint8_t bytes[LONGEST + 1];
-    size_t length = fread(bytes, 1, sizeof bytes, stdin);
+    static char text[LONGEST_TEXT];
+    size_t length = fread(bytes, 1, sizeof bytes, stdin), size;
 
     if (ferror(stdin))
         return 1;
-    play(bytes, length, stdout, NULL, NULL);
-    return fflush(stdout) ? 1 : 0;
+    size = replay(bytes, length, text, sizeof text);
+    return fwrite(text, 1, size, stdout) != size || fflush(stdout);
 }

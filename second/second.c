@@ -6,7 +6,6 @@
 #include "second.h"
 
 #include <assert.h>
-#include <inttypes.h>
 #include <string.h>
 
 /* ---- Steps: the table of fields, answers ------------------------------- */
@@ -568,25 +567,101 @@ int write_run(const struct run *run, uint8_t *out, size_t room, size_t *length)
 
 /* ---- The run program's lines -------------------------------------------- */
 
+/* A number in decimal and the byte after it; gives the place past both. */
+static char *put_number(char *out, uint32_t x, char after)
+{
+    char digits[10];
+    unsigned n = 0;
+
+    do
+        digits[n++] = (char)('0' + x % 10);
+    while (x /= 10);
+    while (n)
+        *out++ = digits[--n];
+    *out++ = after;
+    return out;
+}
+
+static char *put_word(char *out, const char *word)
+{
+    while (*word)
+        *out++ = *word++;
+    return out;
+}
+
+/* The first line: a run's counts, or the fault. Gives its length. */
+static size_t put_front(char *out, int fault, const struct run *run)
+{
+    char *at;
+
+    if (fault) {
+        at = put_number(put_word(out, "refused "), (uint32_t)fault, '\n');
+    } else {
+        at = put_number(put_word(out, "run "), run->nodes, ' ');
+        at = put_number(at, run->cells, ' ');
+        at = put_number(at, run->steps, '\n');
+    }
+    return (size_t)(at - out);
+}
+
+static size_t put_line(char *out, unsigned i, struct answer a)
+{
+    char *at = put_number(out, i, ' ');
+
+    at = put_number(at, a.code, ' ');
+    at = put_number(at, a.number, ' ');
+    at = put_number(at, a.value, '\n');
+    return (size_t)(at - out);
+}
+
+/* The lines of a run's steps, or, with no place for them, only their length. */
+static size_t lines(const struct run *run, char *out)
+{
+    char line[LINE];
+    size_t size = 0;
+    struct state st;
+
+    fresh(&st, run);
+    for (unsigned i = 0; i < run->steps; i++) {
+        struct answer a = step(&st, get_step(run->step + STEP_BYTES * i));
+
+        size += put_line(out ? out + size : line, i, a);
+    }
+    return size;
+}
+
+size_t replay(const uint8_t *bytes, size_t length, char *out, size_t room)
+{
+    struct run run;
+    int fault = read_run(bytes, length, &run);
+    char line[LINE];
+    size_t front = put_front(line, fault, &run), size = front;
+
+    if (!fault && room < LONGEST_TEXT)
+        size += lines(&run, NULL);
+    if (room < size)
+        return size;
+    memcpy(out, line, front);
+    return fault ? front : front + lines(&run, out + front);
+}
+
 int play(const uint8_t *bytes, size_t length, FILE *out, watcher *watch,
          void *with)
 {
     struct run run;
     struct state st;
+    char line[LINE];
     int fault = read_run(bytes, length, &run);
 
-    if (fault) {
-        fprintf(out, "refused %d\n", fault);
+    fwrite(line, 1, put_front(line, fault, &run), out);
+    if (fault)
         return fault;
-    }
-    fprintf(out, "run %u %u %u\n", run.nodes, run.cells, run.steps);
     fresh(&st, &run);
     for (unsigned i = 0; i < run.steps; i++) {
         struct step x = get_step(run.step + STEP_BYTES * i);
         struct answer a = step(&st, x);
 
-        fprintf(out, "%u %" PRIu32 " %" PRIu32 " %" PRIu32 "\n", i, a.code,
-                a.number, a.value);
+        fwrite(line, 1, put_line(line, i, a), out);
         if (watch)
             watch(with, &st, x, a);
     }

@@ -17,7 +17,9 @@
 enum {
     NODES = 8, CELLS = 32, SLOTS = 32, VERSIONS = 8, STEPS = 4096,
     STEP_BYTES = 8,
-    LONGEST = 1 + 4 * NODES + 1 + 5 * CELLS + 2 + STEP_BYTES * STEPS
+    LONGEST = 1 + 4 * NODES + 1 + 5 * CELLS + 2 + STEP_BYTES * STEPS,
+    LINE = 30,                          /* a step's longest line */
+    LONGEST_TEXT = 14 + LINE * STEPS    /* "run 8 32 4096" and its lines */
 };
 
 enum kind {
@@ -95,8 +97,12 @@ int write_run(const struct run *run, uint8_t *out, size_t room, size_t *length);
 struct step get_step(const uint8_t bytes[STEP_BYTES]);
 void put_step(uint8_t bytes[STEP_BYTES], struct step x);
 
-/* The run program: reads, runs and prints one file; gives the fault or 0.
- * `watch`, if any, sees every step with its answer and the state after it. */
+/* What the run program prints for a file, into `out`; gives the text's length,
+ * and writes nothing where the room is less. */
+size_t replay(const uint8_t *bytes, size_t length, char *out, size_t room);
+
+/* The same, printed; gives the fault or 0. `watch`, if any, sees every step
+ * with its answer and the state after it. */
 typedef void watcher(void *with, const struct state *st, struct step x,
                      struct answer a);
 int play(const uint8_t *bytes, size_t length, FILE *out, watcher *watch,

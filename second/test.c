@@ -127,6 +127,26 @@ static void writer(void)
     writer_gives("fields before room", &good, 0, 35, 0);
 }
 
+/* A text that doesn't fit is not written; its length is told all the same. */
+static void text_in_rooms(void)
+{
+    static uint8_t file[LONGEST];
+    static char whole[LONGEST_TEXT], part[LONGEST_TEXT];
+    struct run run = example_run();
+    size_t length = 0, size;
+
+    expect("file", (uint32_t)write_run(&run, file, sizeof file, &length), 0);
+    size = replay(file, length, whole, sizeof whole);
+    memset(part, 0, sizeof part);
+    expect("too little room", (uint32_t)replay(file, length, part, size - 1),
+           (uint32_t)size);
+    expect("nothing written", (uint32_t)(part[0] != 0), 0);
+    expect("just room", (uint32_t)replay(file, length, part, size),
+           (uint32_t)size);
+    expect("all written", (uint32_t)(memcmp(part, whole, size) != 0), 0);
+    expect("nothing beyond", (uint32_t)(part[size] != 0), 0);
+}
+
 int main(int argc, char **argv)
 {
     static uint8_t out[LONGEST];
@@ -142,6 +162,7 @@ int main(int argc, char **argv)
     proposals();
     two_writers();
     faults();
+    text_in_rooms();
     writer();
     printf("examples: %d wrong\n", failures);
     return failures != 0;

@@ -1,0 +1,13 @@
+#ifndef STDIO_H
+#define STDIO_H
+#include <stddef.h>
+typedef struct _IO_FILE FILE;
+extern FILE *stdin, *stdout, *stderr;
+FILE *fopen(const char *, const char *);
+int fclose(FILE *);
+size_t fread(void *, size_t, size_t, FILE *);
+size_t fwrite(const void *, size_t, size_t, FILE *);
+int fflush(FILE *);
+int printf(const char *, ...);
+int fprintf(FILE *, const char *, ...);
+#endif

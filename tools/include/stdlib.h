@@ -1,0 +1,4 @@
+#ifndef STDLIB_H
+#define STDLIB_H
+_Noreturn void exit(int);
+#endif

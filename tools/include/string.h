@@ -1,0 +1,7 @@
+#ifndef STRING_H
+#define STRING_H
+#include <stddef.h>
+void *memcpy(void *, const void *, size_t);
+void *memset(void *, int, size_t);
+int memcmp(const void *, const void *, size_t);
+#endif
