@@ -25,7 +25,8 @@ use Rattle.life.specs.Life.{beginTests, cleared, writeTests, giveUpTests, aband
 use Rattle.read.specs.Read.{askTests, askTurn, readAt, blocks, blocked, noteFor, serveTurn, returnTurn, returnReads}
 use Rattle.vote.specs.Vote.{prepareTests, bars, conflict, outdated, full, reason, vote}
 use Rattle.decide.specs.Decide.{commitTurn, sentTo, commitFlight, refusedBy, lacking, decideTests, final, decideTurn}
-use Rattle.settle.specs.Settle.{learnTests, learnTurn, learnFlight, least, stored, advanceTests}
+use Rattle.learn.specs.Learn.{learnTests, learnTurn, learnFlight}
+use Rattle.settle.specs.Settle.{least, stored, advanceTests}
 use Rattle.score.specs.Desk.{deskOf, putBack}
 use Rattle.score.specs.Steps.{needs, does, rise, cuts, act, stepWhole}
 use Rattle.serial.specs.Serial.{Sound, Steps32, Handed, Run, runOf, isWriter, insert, writers, copyAfter, Serial}

@@ -15,7 +15,8 @@ use Rattle.life.specs.Life.{beginTests, cleared, writeTests, giveUpTests, aband
 use Rattle.read.specs.Read.{askTests, askTurn, readAt, blocks, blocked, noteFor, serveTurn, returnTurn, returnReads}
 use Rattle.vote.specs.Vote.{prepareTests, bars, conflict, outdated, full, reason, vote}
 use Rattle.decide.specs.Decide.{commitTurn, sentTo, commitFlight, refusedBy, lacking, decideTests, final, decideTurn}
-use Rattle.settle.specs.Settle.{learnTests, learnTurn, learnFlight, least, stored, advanceTests}
+use Rattle.learn.specs.Learn.{learnTests, learnTurn, learnFlight}
+use Rattle.settle.specs.Settle.{least, stored, advanceTests}
 use Rattle.score.specs.Desk.{deskOf, putBack}
 use Rattle.score.specs.Steps.{needs, does, rise, cuts, act, stepWhole, stepOf}
 use Rattle.runfile.proofs.Examples.{nothing-there, no-nodes, nine-nodes}

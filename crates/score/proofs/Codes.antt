@@ -20,7 +20,8 @@ use Rattle.life.specs.Life.{beginTests, writeTests, giveUpTests, abandonTests}
 use Rattle.read.specs.Read.{askTests, askTurn, readAt, blocked, serveTurn, spoilt, returnTurn}
 use Rattle.vote.specs.Vote.{prepareTests, Vote, votes-yes, votes-no, prepareTurn}
 use Rattle.decide.specs.Decide.{commitTurn, refusedBy, decideTests, decideTurn}
-use Rattle.settle.specs.Settle.{learnTests, learnTurn, advanceTests}
+use Rattle.learn.specs.Learn.{learnTests, learnTurn}
+use Rattle.settle.specs.Settle.{advanceTests}
 use Rattle.score.specs.Desk.{Desk, deskOf}
 use Rattle.score.specs.Steps.{fieldTests, needs, does, voteOf, cuts, judge, act, stepWhole, stepOf}
 

@@ -17,7 +17,8 @@ use Rattle.life.specs.Life.{beginTests, beginTurn, cleared, writeTests, writeTu
 use Rattle.read.specs.Read.{askTests, askTurn, serveTests, readAt, serveTurn, returnTests, returnTurn, returnReads}
 use Rattle.vote.specs.Vote.{prepareTests, Vote, vote, voteRise, prepareTurn, prepareFlight}
 use Rattle.decide.specs.Decide.{commitTests, commitTurn, commitFlight, decideTests, decideTurn}
-use Rattle.settle.specs.Settle.{learnTests, learnTurn, learnFlight, least, applyTests, applyTurn, applyChains, applyFlight, advanceTests, advanceTurn}
+use Rattle.learn.specs.Learn.{learnTests, learnTurn, learnFlight}
+use Rattle.settle.specs.Settle.{least, applyTests, applyTurn, applyChains, applyFlight, advanceTests, advanceTurn}
 use Rattle.score.specs.Desk.{Desk, deskOf, putBack, Outcome, turned, withFlight, withChains, withWrites, withReads, withCounters}
 
 -- ---- refusals 16 to 18: by the table of kinds, so that unused fields don't matter

@@ -128,7 +128,7 @@ pub(crate) fn to_abandon(
     let cut = kinds::is_cut(x.kind);
     let k = kinds::whole(x.kind);
     match k {
-        10 => settle::learn(cut, slot, c, flight, x.slot, x.node),
+        10 => learn::learn(cut, slot, c, flight, x.slot, x.node),
         11 => settle::apply(
             cut,
             slot,

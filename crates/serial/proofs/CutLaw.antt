@@ -15,7 +15,7 @@ use Rattle.group.specs.State.{has, writer, askOf, finalOf, committed, inStage}
 use Rattle.read.specs.Read.{askTurn, readAt, blocked, serveTurn, spoilt, returnTurn}
 use Rattle.vote.specs.Vote.{Vote, votes-yes, votes-no, prepareTurn, voteRise}
 use Rattle.decide.specs.Decide.{commitTurn, refusedBy, decideTurn}
-use Rattle.settle.specs.Settle.{learnTurn}
+use Rattle.learn.specs.Learn.{learnTurn}
 use Rattle.score.specs.Desk.{Desk, withCounters}
 use Rattle.score.specs.Steps.{does, voteOf, rise, cuts}
 

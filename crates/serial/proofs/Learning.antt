@@ -16,7 +16,7 @@ use Rattle.counters.specs.Counters.{countedTo}
 use Rattle.kinds.specs.declared.Step.{Step}
 use Rattle.kinds.specs.Kinds.{learn}
 use Rattle.group.specs.State.{State, toApply, finished, tagAt, numberAt, entered, committed, inStage, slotAt, countersAt}
-use Rattle.settle.specs.Settle.{learnTests, learnTurn, learnFlight}
+use Rattle.learn.specs.Learn.{learnTests, learnTurn, learnFlight}
 use Rattle.score.specs.Desk.{placeOf, deskOf, putBack}
 use Rattle.score.specs.Steps.{needs, does}
 use Rattle.serial.specs.Serial.{Handed}

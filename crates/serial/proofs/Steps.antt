@@ -29,7 +29,7 @@ use Rattle.group.specs.State.{State, noteOf, slotAt, countersAt}
 use Rattle.whole.specs.Whole.{whole}
 use Rattle.read.specs.Read.{spoilt, returnTurn}
 use Rattle.vote.specs.Vote.{reason, voteFor, vote, voteRise}
-use Rattle.settle.specs.Settle.{learnTests}
+use Rattle.learn.specs.Learn.{learnTests}
 use Rattle.score.specs.Desk.{nodeOf, placeOf, deskOf, putBack, Outcome}
 use Rattle.score.specs.Steps.{fieldTests, needs, does, rise, cuts, refuses, judge, act, stepWhole, stepOf}
 use Rattle.score.proofs.Codes.{Accepted, refused-coded}

@@ -1,9 +1,9 @@
--- `settle::learn` meets its contract: one law for each of its ends.
+-- `learn::learn` meets its contract: one law for each of its ends.
 -- Assumes nothing.
 use borrow.Author.Needs.{needs}
-use Rattle.settle.proofs.Laws.{Ready, learn-undecided, learn-too-late, learn-ready, learn-cut, learn-committed, learn-aborted}
-use Rattle.settle.proofs.learn.Statement.{statement}
-use Rattle.settle.proofs.learn.Tie as tie
+use Rattle.learn.proofs.Laws.{Ready, learn-undecided, learn-too-late, learn-ready, learn-cut, learn-committed, learn-aborted}
+use Rattle.learn.proofs.learn.Statement.{statement}
+use Rattle.learn.proofs.learn.Tie as tie
 
 stage-number-requires : tie.Need-stage-number-requires
 stage-number-requires c κs = search needs

@@ -1,9 +1,9 @@
--- `settle::not_learned` meets its contract: the two ends of the range of tags.
+-- `learn::not_learned` meets its contract: the two ends of the range of tags.
 -- Assumes nothing.
 use borrow.Author.Tests.{le-leb, lt-leb}
 use borrow.Author.Needs.{needs}
-use Rattle.settle.proofs.not_learned.Statement.{statement}
-use Rattle.settle.proofs.not_learned.Tie as tie
+use Rattle.learn.proofs.not_learned.Statement.{statement}
+use Rattle.learn.proofs.not_learned.Tie as tie
 
 tag-requires : tie.Need-tag-requires
 tag-requires c κs = search needs

@@ -1,8 +1,8 @@
--- `settle::decided` meets its contract: the two tests one after the other.
+-- `learn::decided` meets its contract: the two tests one after the other.
 -- Assumes nothing.
 use borrow.Author.Tests.{eq-eqb, ne-eqb}
-use Rattle.settle.proofs.decided.Statement.{statement}
-use Rattle.settle.proofs.decided.Tie as tie
+use Rattle.learn.proofs.decided.Statement.{statement}
+use Rattle.learn.proofs.decided.Tie as tie
 
 returns : tie.Need-returns
 returns c = rw (eq-eqb _ _ (c .if1 .taken))
