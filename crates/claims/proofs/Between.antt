@@ -27,8 +27,9 @@ use Rattle.vote.specs.Vote.{prepareTests, bars, conflict, outdated, full, reaso
 use Rattle.decide.specs.Decide.{commitTurn, sentTo, commitFlight, refusedBy, lacking, decideTests, final, decideTurn}
 use Rattle.learn.specs.Learn.{learnTests, learnTurn, learnFlight}
 use Rattle.settle.specs.Settle.{least, stored, advanceTests}
-use Rattle.score.specs.Desk.{deskOf, putBack}
-use Rattle.score.specs.Steps.{needs, does, rise, cuts, act, stepWhole}
+use Rattle.score.specs.Place.{deskOf, putBack}
+use Rattle.desk.specs.Acts.{needs, does, rise, cuts, act}
+use Rattle.score.specs.Steps.{stepWhole}
 use Rattle.serial.specs.Serial.{Sound, Steps32, Handed, Run, runOf, isWriter, insert, writers, copyAfter, Serial}
 use Rattle.serial.proofs.Never.{innerRun, inner-run}
 use Rattle.serial.proofs.Theorem.{serial}

@@ -17,8 +17,9 @@ use Rattle.vote.specs.Vote.{prepareTests, bars, conflict, outdated, full, reaso
 use Rattle.decide.specs.Decide.{commitTurn, sentTo, commitFlight, refusedBy, lacking, decideTests, final, decideTurn}
 use Rattle.learn.specs.Learn.{learnTests, learnTurn, learnFlight}
 use Rattle.settle.specs.Settle.{least, stored, advanceTests}
-use Rattle.score.specs.Desk.{deskOf, putBack}
-use Rattle.score.specs.Steps.{needs, does, rise, cuts, act, stepWhole, stepOf}
+use Rattle.score.specs.Place.{deskOf, putBack}
+use Rattle.desk.specs.Acts.{needs, does, rise, cuts, act}
+use Rattle.score.specs.Steps.{stepWhole, stepOf}
 use Rattle.runfile.proofs.Examples.{nothing-there, no-nodes, nine-nodes}
 use Rattle.claims.specs.Runs.{answers, replies}
 use Rattle.claims.specs.Example.{AllHold, Holds}

@@ -134,7 +134,7 @@ pub(crate) fn lines(
         let slot = slots[t];
         let n = score::place(x, slot);
         let c = score::counters_at(counters, n);
-        let turn = score::act(
+        let turn = desk::act(
             x,
             slot,
             c,

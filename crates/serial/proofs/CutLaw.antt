@@ -16,8 +16,8 @@ use Rattle.read.specs.Read.{askTurn, readAt, blocked, serveTurn, spoilt, return
 use Rattle.vote.specs.Vote.{Vote, votes-yes, votes-no, prepareTurn, voteRise}
 use Rattle.decide.specs.Decide.{commitTurn, refusedBy, decideTurn}
 use Rattle.learn.specs.Learn.{learnTurn}
-use Rattle.score.specs.Desk.{Desk, withCounters}
-use Rattle.score.specs.Steps.{does, voteOf, rise, cuts}
+use Rattle.desk.specs.Desk.{Desk, withCounters}
+use Rattle.desk.specs.Acts.{does, voteOf, rise, cuts}
 
 -- the desk with the counter that another has, and nothing else of it
 abbrev pub withCounter : Desk → Counters → Desk

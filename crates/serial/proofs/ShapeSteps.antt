@@ -33,8 +33,10 @@ use Rattle.learn.specs.Learn.{learnTests, learnTurn, learnFlight}
 use Rattle.settle.specs.Settle.{applied, applyChains, applyFlight}
 use Rattle.settle.specs.Settle as Settle
 use Rattle.life.specs.Life.{giveUpTests, abandonTests}
-use Rattle.score.specs.Desk.{placeOf, deskOf, putBack, turned, withFlight}
-use Rattle.score.specs.Steps.{fieldTests, needs, does, cuts, refuses, judge, act, stepWhole}
+use Rattle.desk.specs.Desk.{turned, withFlight}
+use Rattle.score.specs.Place.{placeOf, deskOf, putBack}
+use Rattle.desk.specs.Acts.{fieldTests, needs, does, cuts, refuses, judge, act}
+use Rattle.score.specs.Steps.{stepWhole}
 use Rattle.serial.specs.Serial.{Handed}
 use Rattle.settle.proofs.Reasons.{First, first as first-of, apply-first}
 use Rattle.serial.proofs.Inv.{Slots, Writes, writes}

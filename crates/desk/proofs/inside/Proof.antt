@@ -1,7 +1,7 @@
--- `score::inside` meets its contract: of a field that is used, its number.
+-- `desk::inside` meets its contract: of a field that is used, its number.
 -- Assumes nothing.
-use Rattle.score.proofs.inside.Statement.{statement}
-use Rattle.score.proofs.inside.Tie as tie
+use Rattle.desk.proofs.inside.Statement.{statement}
+use Rattle.desk.proofs.inside.Tie as tie
 
 returns : tie.Need-returns
 returns c = rw (c .if1 .taken)

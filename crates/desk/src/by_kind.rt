@@ -13,10 +13,10 @@ ghost use Rattle.kinds.specs.Kinds.{wholeOf};
 ghost use Rattle.group.specs.State.{noted, opened, stageNumber};
 ghost use Rattle.group.specs.Answer.{stepped};
 ghost use Rattle.read.specs.Read.{askTests, askTurn};
-ghost use Rattle.score.specs.Desk.{desk};
-ghost use Rattle.score.specs.Steps.{act};
-ghost use Rattle.score.specs.Ready.{Ready};
-ghost use Rattle.score.specs.Parts.{fieldRefusal, outcome};
+ghost use Rattle.desk.specs.Desk.{desk};
+ghost use Rattle.desk.specs.Acts.{act};
+ghost use Rattle.desk.specs.Ready.{Ready};
+ghost use Rattle.desk.specs.Parts.{fieldRefusal, outcome};
 
 // Step 3. The origin of a slot that is not open may be anything, and nothing is looked up by it.
 fn ask(

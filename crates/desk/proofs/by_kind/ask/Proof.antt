@@ -1,10 +1,10 @@
--- `score::by_kind::ask` meets its contract: refused here, or by what `read::ask` ensures.
+-- `desk::by_kind::ask` meets its contract: refused here, or by what `read::ask` ensures.
 -- Assumes nothing.
 use mathlib.Core.Path.{sym, _∙_}
 use borrow.Author.Needs.{needs}
-use Rattle.score.proofs.Acts.{ask-not-open}
-use Rattle.score.proofs.by_kind.ask.Statement.{statement}
-use Rattle.score.proofs.by_kind.ask.Tie as tie
+use Rattle.desk.proofs.Acts.{ask-not-open}
+use Rattle.desk.proofs.by_kind.ask.Statement.{statement}
+use Rattle.desk.proofs.by_kind.ask.Tie as tie
 
 stage-number-requires : tie.Need-stage-number-requires
 stage-number-requires c κs = search needs

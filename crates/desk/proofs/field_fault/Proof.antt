@@ -1,9 +1,9 @@
--- `score::field_fault` meets its contract: the first of its tests that fails, or none.
+-- `desk::field_fault` meets its contract: the first of its tests that fails, or none.
 -- Assumes nothing.
 use borrow.Author.Needs.{needs}
-use Rattle.score.proofs.Laws.{fault-16, fault-17, fault-18, no-fault}
-use Rattle.score.proofs.field_fault.Statement.{statement}
-use Rattle.score.proofs.field_fault.Tie as tie
+use Rattle.desk.proofs.Laws.{fault-16, fault-17, fault-18, no-fault}
+use Rattle.desk.proofs.field_fault.Statement.{statement}
+use Rattle.desk.proofs.field_fault.Tie as tie
 
 known-requires : tie.Need-known-requires
 known-requires c κs = search needs

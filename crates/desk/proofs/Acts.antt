@@ -31,13 +31,13 @@ use Rattle.vote.specs.Vote.{prepareTests, voteRise, prepareTurn, prepareFlight}
 use Rattle.decide.specs.Decide.{commitTests, commitTurn, commitFlight, decideTests, decideTurn}
 use Rattle.learn.specs.Learn.{learnTests}
 use Rattle.settle.specs.Settle.{applyTests, advanceTests}
-use Rattle.score.specs.Desk.{Desk, desk, turned, withCounters}
-use Rattle.score.specs.Steps.{fieldTests, needs, voteOf, does, rise, cuts, judge, act}
-use Rattle.score.specs.Parts.{fieldRefusal, outcome}
+use Rattle.desk.specs.Desk.{Desk, desk, turned, withCounters}
+use Rattle.desk.specs.Acts.{fieldTests, needs, voteOf, does, rise, cuts, judge, act}
+use Rattle.desk.specs.Parts.{fieldRefusal, outcome}
 use Rattle.group.proofs.Turns.{not-in-stage, step-refused}
 use Rattle.learn.proofs.Laws.{Learned}
 use Rattle.settle.proofs.Laws.{Applied, Advanced}
-use Rattle.score.proofs.Laws.{kind-is}
+use Rattle.desk.proofs.Laws.{kind-is}
 
 -- ---- the fields of a step that is not refused for them
 

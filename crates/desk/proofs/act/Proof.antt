@@ -1,12 +1,12 @@
--- `score::act` meets its contract: refused for its fields, or by what its kind's function ensures.
+-- `desk::act` meets its contract: refused for its fields, or by what its kind's function ensures.
 -- Assumes nothing.
 use mathlib.Core.Path.{_≡_, sym}
 use mathlib.Core.Option.{none}
 use borrow.Author.Needs.{needs}
-use Rattle.score.specs.Parts.{fieldRefusal}
-use Rattle.score.proofs.Acts.{act-refused}
-use Rattle.score.proofs.act.Statement.{statement}
-use Rattle.score.proofs.act.Tie as tie
+use Rattle.desk.specs.Parts.{fieldRefusal}
+use Rattle.desk.proofs.Acts.{act-refused}
+use Rattle.desk.proofs.act.Statement.{statement}
+use Rattle.desk.proofs.act.Tie as tie
 
 field-fault-requires : tie.Need-field-fault-requires
 field-fault-requires c κs = search needs
