@@ -162,7 +162,7 @@ pub fn step(
 ) -> After
     ensures { λ r. ⌜ reached r (now (flight .exit)) (chains (now (lens .exit)) (now (versions .exit))) (now (writes .exit)) (now (reads .exit)) ≡ stepOf (stateOf g (now (flight .entry)) (chains (now (lens .entry)) (now (versions .entry))) (now (writes .entry)) (now (reads .entry))) x ⌝ }
 {
-    if !whole::whole(g, flight, lens, versions, writes, reads) {
+    if !judge::whole(g, flight, lens, versions, writes, reads) {
         return After {
             answer: Answer::Refused(15),
             group: g,
