@@ -12,7 +12,8 @@ use Rattle.group.specs.State.{unfinished, writer, involved}
 use Rattle.fresh.specs.Fresh.{freshLens, freshVersions, fresh}
 use Rattle.whole.specs.Whole.{masksSound, entrySound, flightSound, notesSound, placesSound, setsSound, slotSound, spread, empty, votingSound, committedSound, transactionSound, chainSound, chainsSound, pendingSound, whole}
 use Rattle.life.specs.Life.{beginTests, cleared, writeTests, giveUpTests, abandonTests}
-use Rattle.read.specs.Read.{askTests, askTurn, readAt, blocks, blocked, noteFor, serveTurn, returnTurn, returnReads}
+use Rattle.ask.specs.Ask.{askTests, askTurn}
+use Rattle.read.specs.Read.{readAt, blocks, blocked, noteFor, serveTurn, returnTurn, returnReads}
 use Rattle.vote.specs.Vote.{prepareTests, bars, conflict, outdated, full, reason, vote}
 use Rattle.decide.specs.Decide.{commitTurn, sentTo, commitFlight, refusedBy, lacking, decideTests, final, decideTurn}
 use Rattle.learn.specs.Learn.{learnTests, learnTurn, learnFlight}

@@ -11,7 +11,7 @@ use borrow.Author.Tests.{ltb-true}
 use Rattle.tables.specs.Table.{at}
 use Rattle.tables.specs.Tests.{refusal}
 use Rattle.tables.proofs.Choice.{not-both, and-true}
-use Rattle.tables.proofs.Tests.{Passed, here, passed}
+use Rattle.tables.proofs.Tests.{Passed, passed}
 use Rattle.counters.specs.Counters.{countedTo}
 use Rattle.counters.specs.declared.Counters.{Counters}
 use Rattle.chain.specs.Chain.{Chains}
@@ -22,11 +22,12 @@ use Rattle.kinds.proofs.Laws.{usesBy, uses-named, known-range}
 use Rattle.group.specs.declared.Slot.{Slot}
 use Rattle.group.specs.declared.Turn.{Turn}
 use Rattle.group.specs.declared.Answer.the-variants.{Cut}
-use Rattle.group.specs.State.{opened, stageNumber, askOf, noteOf, finalOf, writer}
+use Rattle.group.specs.State.{askOf, noteOf, finalOf, writer}
 use Rattle.group.specs.Answer.{refusedTurn, stepped, changed}
 use Rattle.life.specs.Life.{beginTests, writeTests, giveUpTests, abandonTests}
 use Rattle.life.proofs.Laws.{Begun, Written, Ended}
-use Rattle.read.specs.Read.{askTests, askTurn, serveTests, readAt, serveTurn, returnTests, returnTurn, returnReads}
+use Rattle.ask.specs.Ask.{askTests, askTurn}
+use Rattle.read.specs.Read.{serveTests, readAt, serveTurn, returnTests, returnTurn, returnReads}
 use Rattle.vote.specs.Vote.{prepareTests, voteRise, prepareTurn, prepareFlight}
 use Rattle.decide.specs.Decide.{commitTests, commitTurn, commitFlight, decideTests, decideTurn}
 use Rattle.learn.specs.Learn.{learnTests}
@@ -34,7 +35,6 @@ use Rattle.settle.specs.Settle.{applyTests, advanceTests}
 use Rattle.desk.specs.Desk.{Desk, desk, turned, withCounters}
 use Rattle.desk.specs.Acts.{fieldTests, needs, voteOf, does, rise, cuts, judge, act}
 use Rattle.desk.specs.Parts.{fieldRefusal, outcome}
-use Rattle.group.proofs.Turns.{not-in-stage, step-refused}
 use Rattle.learn.proofs.Laws.{Learned}
 use Rattle.settle.proofs.Laws.{Applied, Advanced}
 use Rattle.desk.proofs.Laws.{kind-is}
@@ -110,15 +110,6 @@ module _ (nodes cells : ℕ) (x : Step) (ts : List (Bool × ℕ)) where
   fields-pass e =
       pass-first (isKnown (x .kind)) (not (usesOf (x .kind) .node) || ltb (x .node) nodes)
       ((not (usesOf (x .kind) .slot) || ltb (x .slot) 32) && (not (usesOf (x .kind) .cell) || ltb (x .cell) cells)) (refusal ts) e
-
--- an ask of a slot that is not open is refused before its places are looked at
-pub ask-not-open :
-    (cut : Bool) (slot : Slot) (c : Counters) (masks writes : List ℕ) (t n d s : ℕ) → s ≡ stageNumber (slot .stage) → (s ≡ opened → ⊥)
-    → (r : Turn) → r ≡ refusedTurn 19 slot c
-    → r ≡ stepped (refusal (askTests slot masks writes t n d)) cut slot c 0 (askTurn slot c writes t n d)
-unfolding askTests
-ask-not-open cut slot c masks writes t n d s e h r p =
-    step-refused (askTests slot masks writes t n d) cut slot c 0 (askTurn slot c writes t n d) r (here (not-in-stage slot s e opened h)) p
 
 -- a turn that changes no table leaves it
 still : {A : Type 0} (o : Option ℕ) (cut : Bool) (l : A) → l ≡ changed o cut l l

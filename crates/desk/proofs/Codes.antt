@@ -15,7 +15,8 @@ use Rattle.group.specs.declared.Answer.{Answer}
 use Rattle.group.specs.declared.Answer.the-variants.{Done, Value, Wait, Yes, No, Committed, Aborted, Cut, Refused}
 use Rattle.group.specs.State.{has, writer, committed, askOf, inStage}
 use Rattle.life.specs.Life.{beginTests, writeTests, giveUpTests, abandonTests}
-use Rattle.read.specs.Read.{askTests, askTurn, readAt, blocked, serveTurn, spoilt, returnTurn}
+use Rattle.ask.specs.Ask.{askTests, askTurn}
+use Rattle.read.specs.Read.{readAt, blocked, serveTurn, spoilt, returnTurn}
 use Rattle.vote.specs.Vote.{prepareTests, Vote, votes-yes, votes-no, prepareTurn}
 use Rattle.decide.specs.Decide.{commitTurn, refusedBy, decideTests, decideTurn}
 use Rattle.learn.specs.Learn.{learnTests, learnTurn}

@@ -12,7 +12,8 @@ use Rattle.kinds.specs.Kinds.{Kind, begin, write, ask, serve, return, commit, p
 use Rattle.group.specs.declared.Answer.the-variants.{Cut, Refused}
 use Rattle.group.specs.State.{writer, askOf, noteOf, finalOf}
 use Rattle.life.specs.Life.{beginTests, beginTurn, cleared, writeTests, writeTurn, written, giveUpTests, abandonTests, endTurn}
-use Rattle.read.specs.Read.{askTests, askTurn, serveTests, readAt, serveTurn, returnTests, returnTurn, returnReads}
+use Rattle.ask.specs.Ask.{askTests, askTurn}
+use Rattle.read.specs.Read.{serveTests, readAt, serveTurn, returnTests, returnTurn, returnReads}
 use Rattle.vote.specs.Vote.{prepareTests, Vote, vote, voteRise, prepareTurn, prepareFlight}
 use Rattle.decide.specs.Decide.{commitTests, commitTurn, commitFlight, decideTests, decideTurn}
 use Rattle.learn.specs.Learn.{learnTests, learnTurn, learnFlight}

@@ -7,37 +7,12 @@ use kinds::Step;
 ghost use mathlib.Core.Path.{_≡_};
 ghost use mathlib.Core.Option.{none};
 ghost use Prim.Native.Nat.{_≤_, _<_};
-ghost use Rattle.tables.specs.Tests.{refusal};
 ghost use Rattle.chain.specs.Chain.{chains};
 ghost use Rattle.kinds.specs.Kinds.{wholeOf};
-ghost use Rattle.group.specs.State.{noted, opened, stageNumber};
-ghost use Rattle.group.specs.Answer.{stepped};
-ghost use Rattle.read.specs.Read.{askTests, askTurn};
 ghost use Rattle.desk.specs.Desk.{desk};
 ghost use Rattle.desk.specs.Acts.{act};
 ghost use Rattle.desk.specs.Ready.{Ready};
 ghost use Rattle.desk.specs.Parts.{fieldRefusal, outcome};
-
-// Step 3. The origin of a slot that is not open may be anything, and nothing is looked up by it.
-fn ask(
-    cut: bool,
-    slot: Slot,
-    origin: Counters,
-    masks: &[u8; 32],
-    writes: &[u64; 1024],
-    t: u8,
-    node: u8,
-    cell: u8,
-) -> Turn
-    requires { ⌜ (t < 32) × (node < 8) × (cell < 32) × (stageNumber (slot .stage) ≡ opened → slot .origin < 8) × (noted (now writes) t cell ≤ 4294967296) ⌝ }
-    ensures { λ r. ⌜ r ≡ stepped (refusal (askTests slot (now (masks .entry)) (now (writes .entry)) t node cell)) cut slot origin 0 (askTurn slot origin (now (writes .entry)) t node cell) ⌝ }
-{
-    let st = slot.stage;
-    if group::stage_number(st) != group::OPEN {
-        return group::refused(19, slot, origin);
-    }
-    read::ask(cut, slot, origin, masks, writes, t, node, cell)
-}
 
 // Kinds 1 to 5: begin, write, ask, serve, return.
 pub(crate) fn to_return(
@@ -61,7 +36,7 @@ pub(crate) fn to_return(
     match k {
         1 => life::begin(cut, slot, c, x, writes, reads),
         2 => life::write(cut, slot, c, x, writes),
-        3 => ask(cut, slot, c, masks, writes, x.slot, x.node, x.cell),
+        3 => ask::ask(cut, slot, c, masks, writes, x.slot, x.node, x.cell),
         4 => read::serve(cut, slot, c, flight, writes, lens, versions),
         _ => read::hand(cut, slot, c, reads, x.slot),
     }

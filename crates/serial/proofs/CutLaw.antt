@@ -12,7 +12,8 @@ use Rattle.group.specs.declared.Slot.{Slot}
 use Rattle.group.specs.declared.Stage.{Stage}
 use Rattle.group.specs.declared.Stage.the-variants.{Unused, Open, Asking, Served, Voting, Committed, Aborted}
 use Rattle.group.specs.State.{has, writer, askOf, finalOf, committed, inStage}
-use Rattle.read.specs.Read.{askTurn, readAt, blocked, serveTurn, spoilt, returnTurn}
+use Rattle.ask.specs.Ask.{askTurn}
+use Rattle.read.specs.Read.{readAt, blocked, serveTurn, spoilt, returnTurn}
 use Rattle.vote.specs.Vote.{Vote, votes-yes, votes-no, prepareTurn, voteRise}
 use Rattle.decide.specs.Decide.{commitTurn, refusedBy, decideTurn}
 use Rattle.learn.specs.Learn.{learnTurn}

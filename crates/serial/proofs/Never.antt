@@ -12,7 +12,6 @@ use Rattle.group.specs.declared.Answer.the-variants.{Refused}
 use Rattle.group.specs.State.{State}
 use Rattle.whole.specs.Whole.{whole}
 use Rattle.score.specs.Place.{deskOf}
-use Rattle.desk.specs.Acts.{does}
 use Rattle.score.specs.Steps.{stepWhole, stepOf}
 use Rattle.desk.proofs.Codes.{Answered, answered}
 use Rattle.serial.specs.Serial.{Sound, Steps32, Run, handedBy, start, next, runOf}

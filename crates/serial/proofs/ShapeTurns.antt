@@ -34,7 +34,8 @@ use Rattle.group.specs.declared.Answer.the-variants.{Done, Value, Wait}
 use Rattle.group.specs.declared.Answer.the-variants as Answer
 use Rattle.group.specs.Answer.{turn}
 use Rattle.group.specs.State.{State, noted, has, involved, touched, stageNumber, askOf, noteOf, finalOf, atStage, slotAt, countersAt}
-use Rattle.read.specs.Read.{askFor, askTests, askTurn, readAt, blocked, valueOf, noteFor, waitFor, serveTurn, spoilt, returnTurn, returnReads}
+use Rattle.ask.specs.Ask.{askFor, askTests, askTurn}
+use Rattle.read.specs.Read.{readAt, blocked, valueOf, noteFor, waitFor, serveTurn, spoilt, returnTurn, returnReads}
 use Rattle.desk.specs.Desk.{turned, withReads}
 use Rattle.score.specs.Place.{placeOf, deskOf, putBack}
 use Rattle.life.specs.Life.{beginTests, opens, cleared, writeTests}

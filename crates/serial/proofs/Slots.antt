@@ -26,7 +26,7 @@ use Rattle.counters.specs.declared.Counters.{Counters}
 use Rattle.group.specs.declared.Turn.{Turn}
 use Rattle.group.specs.declared.Answer.the-variants.{Done, Value}
 use Rattle.group.specs.Answer.{turn}
-use Rattle.read.specs.Read.{askTests, askFor, askTurn}
+use Rattle.ask.specs.Ask.{askTests, askFor, askTurn}
 use Rattle.desk.specs.Desk.{turned}
 use Rattle.score.specs.Place.{placeOf, deskOf, putBack}
 use Rattle.life.specs.Life.{beginTests, opens, cleared, writeTests, giveUpTests, abandonTests}

@@ -1,8 +1,8 @@
--- `read::may_ask` meets its contract: the tests one after the other.
+-- `ask::may_ask` meets its contract: the tests one after the other.
 -- Assumes nothing.
 use borrow.Author.Needs.{needs}
-use Rattle.read.proofs.may_ask.Statement.{statement}
-use Rattle.read.proofs.may_ask.Tie as tie
+use Rattle.ask.proofs.may_ask.Statement.{statement}
+use Rattle.ask.proofs.may_ask.Tie as tie
 
 has-requires : tie.Need-has-requires
 has-requires c κs = search needs

@@ -1,10 +1,10 @@
--- `read::ask_for` meets its contract, in each of the two cases of a snapshot.
+-- `ask::ask_for` meets its contract, in each of the two cases of a snapshot.
 -- Assumes nothing.
 use mathlib.Core.Path.{_≡_}
 use borrow.Author.Needs.{needs}
 use Rattle.group.specs.declared.Snapshot.the-variants.{Unfixed, Fixed}
-use Rattle.read.proofs.ask_for.Statement.{statement}
-use Rattle.read.proofs.ask_for.Tie as tie
+use Rattle.ask.proofs.ask_for.Statement.{statement}
+use Rattle.ask.proofs.ask_for.Tie as tie
 
 enum-told : tie.Need-enum-told
 enum-told c = search needs

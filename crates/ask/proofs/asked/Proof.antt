@@ -1,11 +1,10 @@
--- `read::asked` meets its contract: an own write, or none.
+-- `ask::asked` meets its contract: an own write, or none.
 -- Assumes nothing.
-use mathlib.Core.Path.{sym}
 use borrow.Author.Tests.{lt-ltb, le-ltb}
 use borrow.Author.Needs.{needs}
-use Rattle.read.specs.Read.{askTurn}
-use Rattle.read.proofs.asked.Statement.{statement}
-use Rattle.read.proofs.asked.Tie as tie
+use Rattle.ask.specs.Ask.{askTurn}
+use Rattle.ask.proofs.asked.Statement.{statement}
+use Rattle.ask.proofs.asked.Tie as tie
 
 noted-requires : tie.Need-noted-requires
 noted-requires c κs = search needs
