@@ -5,7 +5,8 @@ use mathlib.Core.Path.{_≡_, refl}
 use mathlib.Core.Logic.{_≢_}
 use mathlib.Core.List.{List, []}
 use mathlib.Core.Option.{Option}
-use Prim.Native.Nat.{ℕ}
+use Prim.Native.Nat.{ℕ, _+_, _^_, _≤_, _<_}
+use lib.ListN.{length, getD, take, drop}
 use Rattle.tables.specs.Table.{at}
 use Rattle.number.specs.Proposal.{proposal, IsProposal}
 use Rattle.number.proofs.Laws.{proposal-is, proposal-only}
@@ -23,6 +24,12 @@ use Rattle.score.specs.Steps.{stepWhole, stepOf}
 use Rattle.little.proofs.Laws.{Bytes}
 use Rattle.runfile.specs.File.{File, got, bytesOf, readFile}
 use Rattle.runfile.proofs.BothWays.{Sound, read-written, written-read, one-run, one-file, Outcome, outcome}
+use Rattle.runfile.proofs.Longer.{longer-input}
+use Rattle.text.specs.Text.{decimal, placed}
+use Rattle.text.proofs.Digits.{decimal-first, decimal-only}
+use Rattle.text.proofs.Placed.{placed-there, placed-before, placed-beyond}
+use Rattle.replay.specs.Replay.{textOf}
+use Rattle.replay.proofs.Longest.{longest-text}
 use Rattle.serial.specs.Serial as Group
 use Rattle.serial.specs.Serial.{Steps32, start, runOf, Serial}
 use Rattle.serial.proofs.Theorem.{serial}
@@ -32,8 +39,11 @@ use Rattle.claims.specs.Example.{AllHold}
 use Rattle.claims.specs.Starred.{starred}
 use Rattle.claims.specs.Pinned.{pinned}
 use Rattle.claims.specs.Between.{begun, steps, summaryOf, summary, Explained}
+use Rattle.claims.specs.Tables.{Tabled}
 use Rattle.claims.proofs.Computed.{computed}
+use Rattle.claims.proofs.Tabled.{tabled}
 use Rattle.claims.proofs.Between.{summed, explained}
+use Rattle.claims.proofs.Decided.{same}
 
 -- ---- demands 1 and 2
 
@@ -64,6 +74,10 @@ starred-examples = computed .0
 pub pinned-examples : AllHold pinned
 pinned-examples = computed .1
 
+-- The paper's tables and limits, entry by entry: the fields that each kind uses, each fault, the code of each answer.
+pub tables : Tabled
+tables = tabled
+
 -- Run files. Reading what was written gives the same run back ..
 pub read-back : (f : File) → Sound f → readFile (bytesOf f) ≡ got f []
 read-back = read-written
@@ -82,6 +96,37 @@ one-file-a-run = one-file
 -- Any bytes are the file of a sound run, or have one fault of 32 to 36.
 pub sound-or-faulty : (b : List ℕ) → Bytes b → Outcome b
 sound-or-faulty = outcome
+
+-- An input longer than the longest file is judged by its first 32,965 bytes, which is all that the run program reads.
+pub longer-judged : (b : List ℕ) → 32965 ≤ length b → readFile (take 32965 b) ≡ readFile b
+longer-judged = longer-input
+
+-- Replay: the file's bytes alone decide what is printed, byte for byte, and how long it is ..
+pub replay-decided :
+    (file out : List ℕ) (r r′ : ℕ) (out₁ out₂ : List ℕ)
+    → (r ≡ length (textOf (readFile file))) × (out₁ ≡ placed out 0 (textOf (readFile file)))
+    → (r′ ≡ length (textOf (readFile file))) × (out₂ ≡ placed out 0 (textOf (readFile file)))
+    → (r ≡ r′) × (out₁ ≡ out₂)
+replay-decided file out r r′ out₁ out₂ p q = (same r r′ _ (p .0) (q .0), same out₁ out₂ _ (p .1) (q .1))
+
+-- .. and an output of 122,894 bytes is always enough.
+pub always-fits : (file : List ℕ) → Bytes file → length (textOf (readFile file)) ≤ 122894
+always-fits = longest-text
+
+-- Numbers are printed without leading zeros, and no two alike.
+pub no-leading-zero : (n : ℕ) → n < 10 ^ 10 → getD (decimal n) 0 0 ≡ 48 → n ≡ 0
+no-leading-zero = decimal-first
+
+pub numbers-told : (m n : ℕ) → m < 10 ^ 10 → n < 10 ^ 10 → decimal m ≡ decimal n → m ≡ n
+numbers-told = decimal-only
+
+-- What placing bytes means: they stand there where they fit, and every byte before and beyond is as it was.
+pub placed-means :
+    (out : List ℕ) (i : ℕ) (bytes : List ℕ)
+    → (i + length bytes ≤ length out → take (length bytes) (drop i (placed out i bytes)) ≡ bytes)
+    × ((n : ℕ) → n ≤ i → take n (placed out i bytes) ≡ take n out)
+    × ((n : ℕ) → i + length bytes ≤ n → drop n (placed out i bytes) ≡ drop n out)
+placed-means out i bytes = (placed-there out i bytes, placed-before out i bytes, placed-beyond out i bytes)
 
 -- ---- demand 3
 

@@ -3,3 +3,4 @@ pub mod Example
 pub mod Starred
 pub mod Pinned
 pub mod Between
+pub mod Tables

@@ -6,7 +6,9 @@ use Prim.Native.Nat.{ℕ, _+_, _≤_}
 use native.Mathlib.Omega.{arith}
 use lib.ListN.{length, length-append}
 use Rattle.text.specs.Text.{decimal, lineOf, placed}
-use Rattle.text.proofs.Laws.{Wrote, wrote-both, line-more, line-one, after-in, decimal-short}
+use Rattle.text.proofs.Placed.{Wrote, wrote-both, after-in}
+use Rattle.text.proofs.Lines.{line-more, line-one}
+use Rattle.text.proofs.Digits.{decimal-short}
 use Rattle.runfile.specs.declared.Head.{Head}
 use Rattle.replay.specs.Replay.{runWord, refusedWord, frontOf, refusedText}
 

@@ -1,5 +1,3 @@
-pub mod Laws
-pub mod Going
 pub mod FrontLaws
 pub mod Sounds
 pub mod Playing

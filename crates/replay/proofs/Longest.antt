@@ -6,12 +6,13 @@ use Prim.Native.Nat.{ℕ, _≤_}
 use native.Mathlib.Omega.{arith}
 use lib.ListN.{length, length-append}
 use Rattle.kinds.specs.declared.Step.{Step}
-use Rattle.text.proofs.Laws.{decimal-size}
+use Rattle.text.proofs.Digits.{decimal-size}
 use Rattle.little.proofs.Laws.{Bytes}
 use Rattle.runfile.specs.File.{File, Read, got, fault, readFile, joined, stepBytes}
 use Rattle.runfile.specs.Head.{headOf}
 use Rattle.runfile.proofs.BothWays.{Sound, written-read}
-use Rattle.replay.specs.Replay.{linesFrom, freshOf, frontOf, textOf}
+use Rattle.listing.specs.Listing.{linesFrom, freshOf}
+use Rattle.replay.specs.Replay.{frontOf, textOf}
 use Rattle.replay.proofs.FrontLaws.{refused-length}
 use Rattle.replay.proofs.Playing.{steps-all, plays}
 

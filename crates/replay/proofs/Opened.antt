@@ -18,8 +18,10 @@ use Rattle.runfile.specs.Head.{headOf, openedOf}
 use Rattle.runfile.specs.Parts.{stepsStart}
 use Rattle.runfile.proofs.BothWays.{Sound as SoundFile, written-read}
 use Rattle.runfile.proofs.Parts.{steps-section}
-use Rattle.replay.specs.Replay.{linesFrom, freshOf, frontOf, refusedText, textOf}
-use Rattle.replay.specs.Lines.{linesTo, Plays}
+use Rattle.listing.specs.Listing.{linesFrom, freshOf}
+use Rattle.replay.specs.Replay.{frontOf, refusedText, textOf}
+use Rattle.listing.specs.Going.{linesTo}
+use Rattle.replay.specs.Plays.{Plays}
 use Rattle.replay.proofs.Playing.{steps-all, plays}
 
 -- a verdict as a number

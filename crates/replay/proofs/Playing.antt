@@ -17,7 +17,8 @@ use Rattle.group.specs.Answer.{said}
 use Rattle.whole.specs.Whole.{whole}
 use Rattle.score.specs.Steps.{stepOf}
 use Rattle.score.proofs.Codes.{code-low}
-use Rattle.text.proofs.Laws.{line-length, decimal-short, decimal-size}
+use Rattle.text.proofs.Lines.{line-length}
+use Rattle.text.proofs.Digits.{decimal-short, decimal-size}
 use Rattle.runfile.specs.File.{File, joined, stepBytes, fieldsSound}
 use Rattle.runfile.specs.Head.{firsts, headOf}
 use Rattle.runfile.specs.Parts.{stepIn}
@@ -28,9 +29,10 @@ use Rattle.runfile.proofs.Rows.{firsts-size, at-firsts}
 use Rattle.runfile.proofs.Parts.{step-there, joined-step}
 use Rattle.serial.specs.Serial.{Steps32, Run, next, runOf}
 use Rattle.serial.proofs.Never.{whole-run}
-use Rattle.replay.specs.Replay.{lineFor, freshOf}
-use Rattle.replay.specs.Lines.{stateAfter, stepsTo, linesTo, Plays}
-use Rattle.replay.proofs.Laws.{lines-none, lines-step}
+use Rattle.listing.specs.Listing.{lineFor, freshOf}
+use Rattle.listing.specs.Going.{stateAfter, stepsTo, linesTo}
+use Rattle.replay.specs.Plays.{Plays}
+use Rattle.listing.proofs.Laws.{lines-none, lines-step}
 use Rattle.replay.proofs.FrontLaws.{front-short}
 use Rattle.replay.proofs.Sounds.{group-sound}
 

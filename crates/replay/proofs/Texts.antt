@@ -10,10 +10,12 @@ use lib.ListN.{length, length-append}
 use borrow.Author.Tests.{le-leb, leb-true, leb-false}
 use Rattle.tables.proofs.Choice.{not-both}
 use Rattle.text.specs.Text.{placed}
-use Rattle.text.proofs.Laws.{placed-out, placed-size, placed-then}
+use Rattle.text.proofs.Placed.{placed-out, placed-size, placed-then}
 use Rattle.runfile.specs.declared.Head.{Head}
-use Rattle.replay.specs.Replay.{freshOf, frontOf}
-use Rattle.replay.specs.Lines.{linesTo, shown, Goes, Plays}
+use Rattle.listing.specs.Listing.{freshOf}
+use Rattle.replay.specs.Replay.{frontOf}
+use Rattle.listing.specs.Going.{linesTo, shown, Goes}
+use Rattle.replay.specs.Plays.{Plays}
 
 module _ (h : Head) (part : List ℕ) (p : Plays h part) (start : ℕ) (e : start ≡ length (frontOf h)) (few : start ≤ 37) where
   abbrev lines : List ℕ

@@ -1,6 +1,5 @@
 // A run file in, the lines of its run out: what the run program prints, into bytes that the caller lends.
 mod front;
-mod lines;
 
 use runfile::Head;
 use runfile::Verdict;
@@ -11,8 +10,10 @@ ghost use lib.Dec.{leb};
 ghost use lib.ListN.{length};
 ghost use Rattle.text.specs.Text.{placed};
 ghost use Rattle.runfile.specs.File.{readFile};
-ghost use Rattle.replay.specs.Replay.{freshOf, frontOf, textOf};
-ghost use Rattle.replay.specs.Lines.{Plays, linesTo};
+ghost use Rattle.listing.specs.Listing.{freshOf};
+ghost use Rattle.replay.specs.Replay.{frontOf, textOf};
+ghost use Rattle.replay.specs.Plays.{Plays};
+ghost use Rattle.listing.specs.Going.{linesTo};
 
 // No text is longer, so that an output of this size need not be measured first.
 const LONGEST: usize = 122894;
@@ -26,7 +27,7 @@ fn fits(h: Head, part: &[u8], out: &mut [u8], start: usize) -> bool
     if LONGEST <= out.len() {
         return true;
     }
-    let size = lines::walk(h, part, out, start, false);
+    let size = listing::walk(h, part, out, start, false);
     size <= out.len()
 }
 
@@ -39,9 +40,9 @@ fn run(h: Head, part: &[u8], out: &mut [u8]) -> usize
     let start = front::size(h);
     if fits(h, part, out, start) {
         front::put(h, out);
-        lines::walk(h, part, out, start, true)
+        listing::walk(h, part, out, start, true)
     } else {
-        lines::walk(h, part, out, start, false)
+        listing::walk(h, part, out, start, false)
     }
 }
 

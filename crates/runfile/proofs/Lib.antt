@@ -7,3 +7,4 @@ pub mod Rows
 pub mod Reading
 pub mod Sections
 pub mod Opening
+pub mod Longer

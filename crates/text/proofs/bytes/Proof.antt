@@ -7,7 +7,8 @@ use lib.ListN.{length, length-set}
 use borrow.Author.Tests.{leb-true, leb-false}
 use borrow.Author.Needs.{needs}
 use Rattle.text.specs.Text.{placed}
-use Rattle.text.proofs.Laws.{wrote-none, wrote-all, withRest, rest-all, rest-next, rest-none}
+use Rattle.text.proofs.Placed.{wrote-none, wrote-all}
+use Rattle.text.proofs.Coding.{withRest, rest-all, rest-next, rest-none}
 use Rattle.text.proofs.bytes.Statement.{statement}
 use Rattle.text.proofs.bytes.Tie as tie
 

@@ -8,7 +8,7 @@ use lib.ListN.{length, length-append}
 use borrow.Author.Tests.{leb-true, leb-false}
 use borrow.Author.Needs.{needs}
 use Rattle.text.specs.Text.{decimal}
-use Rattle.text.proofs.Laws.{wrote-none, wrote-both}
+use Rattle.text.proofs.Placed.{wrote-none, wrote-both}
 use Rattle.text.proofs.closed.Statement.{statement}
 use Rattle.text.proofs.closed.Tie as tie
 

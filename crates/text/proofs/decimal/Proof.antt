@@ -7,7 +7,8 @@ use lib.ListN.{length, length-set}
 use borrow.Author.Tests.{leb-true, leb-false}
 use borrow.Author.Needs.{needs}
 use Rattle.text.specs.Text.{decimal, placed}
-use Rattle.text.proofs.Laws.{after-in, wrote-none, withFirst, first-all, first-next, first-none}
+use Rattle.text.proofs.Placed.{after-in, wrote-none}
+use Rattle.text.proofs.Coding.{withFirst, first-all, first-next, first-none}
 use Rattle.text.proofs.decimal.Statement.{statement}
 use Rattle.text.proofs.decimal.Tie as tie
 

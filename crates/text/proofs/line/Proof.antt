@@ -1,6 +1,6 @@
 -- `text::line` meets its contract: the four numbers one after the other, or none.
 -- Assumes nothing.
-use mathlib.Core.Path.{_≡_, sym, _∙_}
+use mathlib.Core.Path.{sym, _∙_}
 use mathlib.Core.List.{[], _∷_}
 use Prim.Native.Nat.{_+_, _≤_}
 use native.Mathlib.Omega.{arith}
@@ -8,7 +8,7 @@ use lib.ListN.{length}
 use borrow.Author.Tests.{leb-true, leb-false}
 use borrow.Author.Needs.{needs}
 use Rattle.text.specs.Text.{lineOf}
-use Rattle.text.proofs.Laws.{wrote-none, wrote-line}
+use Rattle.text.proofs.Placed.{wrote-none, wrote-line}
 use Rattle.text.proofs.line.Statement.{statement}
 use Rattle.text.proofs.line.Tie as tie
 

@@ -2,7 +2,7 @@
 -- Assumes nothing.
 use native.Mathlib.Omega.{arith}
 use borrow.Author.Needs.{needs}
-use Rattle.text.proofs.Laws.{line-length}
+use Rattle.text.proofs.Lines.{line-length}
 use Rattle.text.proofs.line_size.Statement.{statement}
 use Rattle.text.proofs.line_size.Tie as tie
 

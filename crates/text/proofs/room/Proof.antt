@@ -4,7 +4,7 @@ use mathlib.Core.Path.{sym}
 use Prim.Native.Nat.{_+_}
 use native.Mathlib.Omega.{arith}
 use borrow.Author.Tests.{lt-leb}
-use Rattle.text.proofs.Laws.{room-test}
+use Rattle.text.proofs.Coding.{room-test}
 use Rattle.text.proofs.room.Statement.{statement}
 use Rattle.text.proofs.room.Tie as tie
 

@@ -5,7 +5,7 @@ use Prim.Native.Nat.{_+_, _-_, _^_, _≤_, _<_}
 use native.Mathlib.Omega.{arith}
 use lib.ListN.{length}
 use Rattle.text.specs.Text.{decimalIn, decimal}
-use Rattle.text.proofs.Laws.{count-last, count-next}
+use Rattle.text.proofs.Coding.{count-last, count-next}
 use Rattle.text.proofs.size.Statement.{statement}
 use Rattle.text.proofs.size.Tie as tie
 

@@ -3,7 +3,7 @@
 use mathlib.Core.Path.{sym}
 use native.Mathlib.Omega.{arith}
 use borrow.Author.Needs.{needs}
-use Rattle.text.proofs.Laws.{placed-out}
+use Rattle.text.proofs.Placed.{placed-out}
 use Rattle.replay.specs.Replay.{refusedText}
 use Rattle.replay.proofs.FrontLaws.{refused-length, wrote-refused}
 use Rattle.replay.proofs.front.refused.Statement.{statement}

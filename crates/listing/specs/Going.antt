@@ -1,9 +1,9 @@
--- What the contracts of the replay's parts cite.
+-- What the contracts of the listing's parts cite.
 -- Assumes nothing.
 use mathlib.Core.Path.{_≡_}
 use mathlib.Core.Bool.{Bool, true, cond}
 use mathlib.Core.List.{List, [], _∷_}
-use Prim.Native.Nat.{ℕ, _+_, _*_, _≤_, _<_}
+use Prim.Native.Nat.{ℕ, _*_, _≤_, _<_}
 use lib.ListN.{length}
 use Rattle.text.specs.Text.{placed}
 use Rattle.kinds.specs.declared.Step.{Step}
@@ -11,12 +11,11 @@ use Rattle.group.specs.Answer.{Said}
 use Rattle.group.specs.State.{State}
 use Rattle.whole.specs.Whole.{whole}
 use Rattle.score.specs.Steps.{stepOf}
-use Rattle.runfile.specs.declared.Head.{Head}
 use Rattle.runfile.specs.File.{fieldsSound}
 use Rattle.runfile.specs.Head.{firsts}
 use Rattle.runfile.specs.Parts.{stepIn}
-use Rattle.replay.specs.declared.lines.Reply.{Reply}
-use Rattle.replay.specs.Replay.{linesFrom, freshOf, frontOf}
+use Rattle.listing.specs.declared.Reply.{Reply}
+use Rattle.listing.specs.Listing.{linesFrom}
 
 -- the state after the steps
 unfoldable pub stateAfter : State → List Step → State
@@ -37,11 +36,6 @@ pub record Goes (s : State) (part : List ℕ) (count : ℕ) : Type 0 where
   pub there : 8 * count ≤ length part
   pub fields : (i : ℕ) → i < count → fieldsSound (stepIn part i) ≡ true
   pub wholes : (i : ℕ) → i < count → whole (stateAfter s (stepsTo part i)) ≡ true
-
--- a run from fresh that can be gone through so, and whose text has at most so many bytes
-pub record Plays (h : Head) (part : List ℕ) : Type 0 where
-  pub goes : Goes (freshOf h) part (h .steps)
-  pub longest : length (frontOf h) + length (linesTo (freshOf h) part (h .steps)) ≤ 122894
 
 -- the output with the bytes placed, or untouched where they are only counted
 abbrev pub shown : Bool → List ℕ → ℕ → List ℕ → List ℕ

@@ -14,12 +14,13 @@ use Rattle.group.specs.Answer.{Said, said}
 use Rattle.group.specs.State.{State}
 use Rattle.score.specs.Steps.{stepOf}
 use Rattle.text.specs.Text.{lineOf}
-use Rattle.text.proofs.Laws.{line-size, Wrote, after-in}
+use Rattle.text.proofs.Lines.{line-size}
+use Rattle.text.proofs.Placed.{Wrote, after-in}
 use Rattle.runfile.specs.Head.{firsts}
 use Rattle.runfile.specs.Parts.{stepIn}
 use Rattle.runfile.proofs.Rows.{firsts-next, firsts-size}
-use Rattle.replay.specs.Replay.{lineFor, linesFrom}
-use Rattle.replay.specs.Lines.{stateAfter, stepsTo, linesTo, shown}
+use Rattle.listing.specs.Listing.{lineFor, linesFrom}
+use Rattle.listing.specs.Going.{stateAfter, stepsTo, linesTo, shown}
 
 -- ---- one step more
 

@@ -1,10 +1,10 @@
--- `replay::lines::place_of` meets its contract: the slot's own place, or the first.
+-- `listing::place_of` meets its contract: the slot's own place, or the first.
 -- Assumes nothing.
 use mathlib.Core.Path.{refl}
 use native.Mathlib.Omega.{arith}
 use borrow.Author.Tests.{lt-ltb, le-ltb}
-use Rattle.replay.proofs.lines.place_of.Statement.{statement}
-use Rattle.replay.proofs.lines.place_of.Tie as tie
+use Rattle.listing.proofs.place_of.Statement.{statement}
+use Rattle.listing.proofs.place_of.Tie as tie
 
 returns : tie.Need-returns
 returns c = (rw (lt-ltb _ _ (c .if1 .taken)) refl, omega arith)

@@ -1,9 +1,9 @@
--- `replay::lines::walk` meets its contract: the tables are those of a fresh run.
+-- `listing::walk` meets its contract: the tables are those of a fresh run.
 -- Assumes nothing.
 use borrow.Author.Needs.{needs}
-use Rattle.replay.specs.Replay.{freshOf}
-use Rattle.replay.proofs.lines.walk.Statement.{statement}
-use Rattle.replay.proofs.lines.walk.Tie as tie
+use Rattle.listing.specs.Listing.{freshOf}
+use Rattle.listing.proofs.walk.Statement.{statement}
+use Rattle.listing.proofs.walk.Tie as tie
 
 fresh-requires : tie.Need-fresh-requires
 fresh-requires c κs = search needs

@@ -1,9 +1,9 @@
--- `replay::lines::put_line` meets its contract: the line is written where it fits, or its bytes are counted.
+-- `listing::put_line` meets its contract: the line is written where it fits, or its bytes are counted.
 -- Assumes nothing.
 use borrow.Author.Needs.{needs}
-use Rattle.replay.proofs.Laws.{line-put, line-count}
-use Rattle.replay.proofs.lines.put_line.Statement.{statement}
-use Rattle.replay.proofs.lines.put_line.Tie as tie
+use Rattle.listing.proofs.Laws.{line-put, line-count}
+use Rattle.listing.proofs.put_line.Statement.{statement}
+use Rattle.listing.proofs.put_line.Tie as tie
 
 reply-of-requires : tie.Need-reply-of-requires
 reply-of-requires c κs = search needs

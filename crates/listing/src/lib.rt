@@ -12,8 +12,8 @@ ghost use lib.ListN.{length};
 ghost use Rattle.chain.specs.Chain.{chains};
 ghost use Rattle.group.specs.State.{stateOf};
 ghost use Rattle.group.specs.Answer.{said};
-ghost use Rattle.replay.specs.Replay.{lineFor, freshOf};
-ghost use Rattle.replay.specs.Lines.{Goes, linesTo, shown, saidBy};
+ghost use Rattle.listing.specs.Listing.{lineFor, freshOf};
+ghost use Rattle.listing.specs.Going.{Goes, linesTo, shown, saidBy};
 
 // The paper's code, number and value of an answer.
 struct Reply {
@@ -22,55 +22,29 @@ struct Reply {
     value: u32,
 }
 
+fn says(code: u32, number: u32, value: u32) -> Reply
+    ensures { λ r. ⌜ r ≡ record { code = code; number = number; value = value } ⌝ }
+{
+    Reply {
+        code,
+        number,
+        value,
+    }
+}
+
 fn reply_of(a: Answer) -> Reply
     ensures { λ r. ⌜ saidBy r ≡ said a ⌝ }
 {
     match a {
-        Answer::Done(k) => Reply {
-            code: 0,
-            number: k,
-            value: 0,
-        },
-        Answer::Value { s, value } => Reply {
-            code: 1,
-            number: s,
-            value,
-        },
-        Answer::Wait(s) => Reply {
-            code: 2,
-            number: s,
-            value: 0,
-        },
-        Answer::Yes(k) => Reply {
-            code: 3,
-            number: k,
-            value: 0,
-        },
-        Answer::No(reason) => Reply {
-            code: 4,
-            number: reason,
-            value: 0,
-        },
-        Answer::Committed(k) => Reply {
-            code: 5,
-            number: k,
-            value: 0,
-        },
-        Answer::Aborted => Reply {
-            code: 6,
-            number: 0,
-            value: 0,
-        },
-        Answer::Cut => Reply {
-            code: 7,
-            number: 0,
-            value: 0,
-        },
-        Answer::Refused(code) => Reply {
-            code: code,
-            number: 0,
-            value: 0,
-        },
+        Answer::Done(k) => says(0, k, 0),
+        Answer::Value { s, value } => says(1, s, value),
+        Answer::Wait(s) => says(2, s, 0),
+        Answer::Yes(k) => says(3, k, 0),
+        Answer::No(reason) => says(4, reason, 0),
+        Answer::Committed(k) => says(5, k, 0),
+        Answer::Aborted => says(6, 0, 0),
+        Answer::Cut => says(7, 0, 0),
+        Answer::Refused(code) => says(code, 0, 0),
     }
 }
 
@@ -102,7 +76,7 @@ fn narrow(i: usize) -> u32
 }
 
 // Goes through the steps from a state, and returns the place past the last line.
-pub(crate) fn lines(
+fn lines(
     g: Group,
     flight: &mut [u64; 256],
     lens: &mut [u8; 256],
@@ -161,7 +135,7 @@ pub(crate) fn lines(
 
 // The lines of a run from fresh, whose steps stand in the part: written from the place `start` on, or only counted. Returns the place past
 // the last.
-pub(crate) fn walk(h: Head, part: &[u8], out: &mut [u8], start: usize, write: bool) -> usize
+pub fn walk(h: Head, part: &[u8], out: &mut [u8], start: usize, write: bool) -> usize
     requires { ⌜ Goes (freshOf h) (now part) (h .steps) × (start ≤ 64)
         × (write ≡ true → start + length (linesTo (freshOf h) (now part) (h .steps)) ≤ length (now out)) ⌝ }
     ensures { λ r. ⌜ (r ≡ start + length (linesTo (freshOf h) (now (part .entry)) (h .steps)))

@@ -1,4 +1,4 @@
--- `replay::lines::lines` meets its contract: after i steps the state is that of the run, and their lines are written or counted.
+-- `listing::lines` meets its contract: after i steps the state is that of the run, and their lines are written or counted.
 -- Assumes nothing.
 use mathlib.Core.Path.{_≡_, refl, sym, ap, ap₂, _∙_}
 use mathlib.Core.Bool.{true}
@@ -14,10 +14,10 @@ use Rattle.whole.specs.Whole.{whole}
 use Rattle.score.specs.Steps.{Stepped, stepOf}
 use Rattle.runfile.specs.File.{fieldsSound}
 use Rattle.runfile.specs.Parts.{takenOf, stepIn}
-use Rattle.replay.specs.Lines.{stateAfter, stepsTo}
-use Rattle.replay.proofs.Going.{stateIn, Gone, gone-none, gone-size, taken-is, taken-never, is-there, still-whole, place-low, all-shown, line-fits, gone-next, ready, stepped}
-use Rattle.replay.proofs.lines.lines.Statement.{statement}
-use Rattle.replay.proofs.lines.lines.Tie as tie
+use Rattle.listing.specs.Going.{stateAfter, stepsTo}
+use Rattle.listing.proofs.Going.{stateIn, Gone, gone-none, gone-size, taken-is, taken-never, is-there, still-whole, place-low, all-shown, line-fits, gone-next, ready, stepped}
+use Rattle.listing.proofs.lines.Statement.{statement}
+use Rattle.listing.proofs.lines.Tie as tie
 
 abbrev Inv-loop : tie.InvT-loop
 Inv-loop g flight₀ lens₀ versions₀ writes₀ reads₀ part count out₀ start write masks slots₀ counters₀ at₀ i₀ flight lens versions writes reads out slots counters at i =

@@ -30,13 +30,13 @@ use Rattle.desk.specs.Acts.{act}
 use Rattle.score.specs.Steps.{Stepped, stepOf}
 use Rattle.score.proofs.WholeLaws.{whole-ready, put-back-at, is-whole}
 use Rattle.text.specs.Text.{placed}
-use Rattle.text.proofs.Laws.{placed-size, placed-none, placed-then}
+use Rattle.text.proofs.Placed.{placed-size, placed-none, placed-then}
 use Rattle.runfile.specs.File.{fieldsSound}
 use Rattle.runfile.specs.Parts.{stepIn, stepAt}
 use Rattle.runfile.proofs.Parts.{step-there}
-use Rattle.replay.specs.Replay.{lineFor}
-use Rattle.replay.specs.Lines.{stateAfter, stepsTo, linesTo, shown, Goes}
-use Rattle.replay.proofs.Laws.{lineAt, states-next, states-none, lines-next, lines-none, lines-step, lines-size, lines-grow}
+use Rattle.listing.specs.Listing.{lineFor}
+use Rattle.listing.specs.Going.{stateAfter, stepsTo, linesTo, shown, Goes}
+use Rattle.listing.proofs.Laws.{lineAt, states-next, states-none, lines-next, lines-none, lines-step, lines-size, lines-grow}
 
 -- ---- the step that is taken
 
