@@ -22,12 +22,15 @@ use Rattle.chain.specs.Chain.{lenAt, size, versionAt, newest, latest, hasRoom, 
 use Rattle.group.specs.State.{unfinished, holds, has, writer, involved}
 use Rattle.fresh.specs.Fresh.{freshLens, freshVersions, fresh}
 use Rattle.life.specs.Life.{beginTests, cleared, writeTests, giveUpTests, abandonTests}
-use Rattle.read.specs.Read.{askTests, askTurn, readAt, blocks, blocked, noteFor, serveTurn, returnTurn, returnReads}
+use Rattle.ask.specs.Ask.{askTests, askTurn}
+use Rattle.read.specs.Read.{readAt, blocks, blocked, noteFor, serveTurn, returnTurn, returnReads}
 use Rattle.vote.specs.Vote.{prepareTests, bars, conflict, outdated, full, reason, vote}
 use Rattle.decide.specs.Decide.{commitTurn, sentTo, commitFlight, refusedBy, lacking, decideTests, final, decideTurn}
-use Rattle.settle.specs.Settle.{learnTests, learnTurn, learnFlight, least, stored, advanceTests}
-use Rattle.score.specs.Desk.{deskOf, putBack}
-use Rattle.score.specs.Steps.{needs, does, rise, cuts, act, stepWhole}
+use Rattle.learn.specs.Learn.{learnTests, learnTurn, learnFlight}
+use Rattle.settle.specs.Settle.{least, stored, advanceTests}
+use Rattle.score.specs.Place.{deskOf, putBack}
+use Rattle.desk.specs.Acts.{needs, does, rise, cuts, act}
+use Rattle.score.specs.Steps.{stepWhole}
 use Rattle.serial.specs.Serial.{Sound, Steps32, Handed, Run, runOf, isWriter, insert, writers, copyAfter, Serial}
 use Rattle.serial.proofs.Never.{innerRun, inner-run}
 use Rattle.serial.proofs.Theorem.{serial}

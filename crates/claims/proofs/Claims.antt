@@ -19,8 +19,9 @@ use Rattle.chain.specs.Chain.{Chains}
 use Rattle.score.specs.declared.After.{After}
 use Rattle.score.specs.Parts.{reached}
 use Rattle.score.proofs.WholeLaws.{step-only}
-use Rattle.score.specs.Desk.{Desk}
-use Rattle.score.specs.Steps.{does, cuts, stepWhole, stepOf}
+use Rattle.desk.specs.Desk.{Desk}
+use Rattle.desk.specs.Acts.{does, cuts}
+use Rattle.score.specs.Steps.{stepWhole, stepOf}
 use Rattle.little.specs.Little.{fits, numberAt, stored}
 use Rattle.little.proofs.Laws.{Bytes, number-stored, stored-before, stored-past}
 use Rattle.runfile.specs.File.{File, got, fault, bytesOf, readFile}

@@ -12,12 +12,15 @@ use Rattle.group.specs.State.{unfinished, writer, involved}
 use Rattle.fresh.specs.Fresh.{freshLens, freshVersions, fresh}
 use Rattle.whole.specs.Whole.{masksSound, entrySound, flightSound, notesSound, placesSound, setsSound, slotSound, spread, empty, votingSound, committedSound, transactionSound, chainSound, chainsSound, pendingSound, whole}
 use Rattle.life.specs.Life.{beginTests, cleared, writeTests, giveUpTests, abandonTests}
-use Rattle.read.specs.Read.{askTests, askTurn, readAt, blocks, blocked, noteFor, serveTurn, returnTurn, returnReads}
+use Rattle.ask.specs.Ask.{askTests, askTurn}
+use Rattle.read.specs.Read.{readAt, blocks, blocked, noteFor, serveTurn, returnTurn, returnReads}
 use Rattle.vote.specs.Vote.{prepareTests, bars, conflict, outdated, full, reason, vote}
 use Rattle.decide.specs.Decide.{commitTurn, sentTo, commitFlight, refusedBy, lacking, decideTests, final, decideTurn}
-use Rattle.settle.specs.Settle.{learnTests, learnTurn, learnFlight, least, stored, advanceTests}
-use Rattle.score.specs.Desk.{deskOf, putBack}
-use Rattle.score.specs.Steps.{needs, does, rise, cuts, act, stepWhole, stepOf}
+use Rattle.learn.specs.Learn.{learnTests, learnTurn, learnFlight}
+use Rattle.settle.specs.Settle.{least, stored, advanceTests}
+use Rattle.score.specs.Place.{deskOf, putBack}
+use Rattle.desk.specs.Acts.{needs, does, rise, cuts, act}
+use Rattle.score.specs.Steps.{stepWhole, stepOf}
 use Rattle.runfile.proofs.Examples.{nothing-there, no-nodes, nine-nodes}
 use Rattle.claims.specs.Runs.{answers, replies}
 use Rattle.claims.specs.Example.{AllHold, Holds}

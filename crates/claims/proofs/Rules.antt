@@ -24,7 +24,9 @@ use Rattle.vote.proofs.Reasons.{Apart}
 use Rattle.vote.proofs.Reasons as Voting
 use Rattle.decide.specs.Decide.{final}
 use Rattle.decide.proofs.Reasons as Deciding
-use Rattle.settle.specs.Settle.{learnTurn, learnFlight, least, applyTests, applyTurn, applyFlight, advanceTests}
+use Rattle.learn.specs.Learn.{learnTurn, learnFlight}
+use Rattle.learn.proofs.Reasons as Learning
+use Rattle.settle.specs.Settle.{least, applyTests, applyTurn, applyFlight, advanceTests}
 use Rattle.settle.proofs.Reasons.{First}
 use Rattle.settle.proofs.Reasons as Settling
 
@@ -100,11 +102,11 @@ final-most = Deciding.final-most
 pub learn-saves : (slot : Slot) (c : Counters)
     → (said (learnTurn slot c .answer) .number ≤ learnTurn slot c .counters .counter)
     × (inStage slot committed ≡ true → said (learnTurn slot c .answer) .number ≡ finalOf (slot .stage))
-learn-saves slot c = (Settling.learn-saves slot c, Settling.learn-answers slot c)
+learn-saves slot c = (Learning.learn-saves slot c, Learning.learn-answers slot c)
 
 -- An abort's locks go.
 pub abort-unlocks : (slot : Slot) (flight : List ℕ) (t n : ℕ) → pair 8 t n < length flight → inStage slot committed ≡ false → unfinished (learnFlight slot flight t n) t n ≡ false
-abort-unlocks = Settling.abort-unlocks
+abort-unlocks = Learning.abort-unlocks
 
 -- ---- rule E and advance
 

@@ -8,8 +8,7 @@ use Rattle.tables.specs.Table.{at}
 use Rattle.tables.specs.Pair.{pair}
 use Rattle.tables.specs.Loop.{each}
 use Rattle.counters.specs.Counters.{zeroed}
-use Rattle.chain.specs.Chain.{Chains, chains}
-use Rattle.group.specs.declared.Group.{Group}
+use Rattle.chain.specs.Chain.{chains}
 use Rattle.group.specs.State.{State, holds, noSlot}
 
 -- each holder's chain has one version, number 0 with the cell's first value; chain i is that of cell i / 8 at node i % 8

@@ -22,10 +22,12 @@ use Rattle.group.specs.declared.Slot.{Slot}
 use Rattle.group.specs.declared.Turn.{Turn}
 use Rattle.group.specs.State.{State, stateOf, noSlot}
 use Rattle.whole.specs.Whole.{whole}
-use Rattle.score.specs.Desk.{nodeOf, desk}
-use Rattle.score.specs.Ready.{Ready}
-use Rattle.score.specs.Parts.{outcome}
-use Rattle.score.specs.Steps.{act, Stepped, stepOf}
+use Rattle.desk.specs.Desk.{desk}
+use Rattle.score.specs.Place.{nodeOf}
+use Rattle.desk.specs.Ready.{Ready}
+use Rattle.desk.specs.Parts.{outcome}
+use Rattle.desk.specs.Acts.{act}
+use Rattle.score.specs.Steps.{Stepped, stepOf}
 use Rattle.score.proofs.WholeLaws.{whole-ready, put-back-at, is-whole}
 use Rattle.text.specs.Text.{placed}
 use Rattle.text.proofs.Placed.{placed-size, placed-none, placed-then}

@@ -108,7 +108,7 @@ fn lines(
         let slot = slots[t];
         let n = score::place(x, slot);
         let c = score::counters_at(counters, n);
-        let turn = score::act(
+        let turn = desk::act(
             x,
             slot,
             c,

@@ -1,4 +1,3 @@
 pub mod Laws
-pub mod Acts
 pub mod WholeLaws
 pub mod Codes

@@ -31,11 +31,14 @@ use Rattle.group.specs.State.{State, stateOf, holds, noted, unused, opened, ask
 use Rattle.whole.specs.Whole.{implies, countsSound, noteSound, notesSound, askedSound, placesSound, setsSound, slotSound, transactionSound, whole}
 use Rattle.whole.proofs.Laws.{counts-in}
 use Rattle.score.specs.declared.After.{After}
-use Rattle.score.specs.Desk.{nodeOf, placeOf, deskOf, putBack, desk, Outcome}
-use Rattle.score.specs.Steps.{act, Stepped, stepWhole, stepOf}
-use Rattle.score.specs.Ready.{Ready}
-use Rattle.score.specs.Parts.{fieldRefusal, outcome, reached}
-use Rattle.score.proofs.Acts.{act-refused}
+use Rattle.desk.specs.Desk.{desk, Outcome}
+use Rattle.score.specs.Place.{nodeOf, placeOf, deskOf, putBack}
+use Rattle.desk.specs.Acts.{act}
+use Rattle.score.specs.Steps.{Stepped, stepWhole, stepOf}
+use Rattle.desk.specs.Ready.{Ready}
+use Rattle.desk.specs.Parts.{fieldRefusal, outcome}
+use Rattle.score.specs.Parts.{reached}
+use Rattle.desk.proofs.Acts.{act-refused}
 
 -- there is a code
 data Some (o : Option ℕ) : Type 0 where

@@ -1,4 +1,3 @@
-pub mod Desk
+pub mod Place
 pub mod Steps
-pub mod Ready
 pub mod Parts

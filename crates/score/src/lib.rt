@@ -1,69 +1,29 @@
-// The step: what a state comes to by one step. The refusals come first, in the order of their codes: 15 for a state that is not whole, 16 to
-// 18 by the table of kinds, and the rest by the kind's own function. A step moves one slot and one node's counters at most: these two are
-// taken out of the group, handed on by value, and put back. The tables are changed where they lie.
-mod by_kind;
-
+// The step: what a state comes to by one step. A state that is not whole is refused with 15. A step moves one slot and one node's counters at
+// most: these two are taken out of the group, handed on by value to the step of the desk, and put back. The tables are changed where they lie.
 use counters::Counters;
 use group::Answer;
 use group::Group;
 use group::Slot;
 use group::Snapshot;
 use group::Stage;
-use group::Turn;
 use kinds::Step;
 ghost use mathlib.Core.Path.{_≡_};
-ghost use mathlib.Core.Bool.{true, not, _||_};
+ghost use mathlib.Core.Bool.{true};
 ghost use Prim.Native.Nat.{_≤_};
-ghost use lib.Dec.{ltb};
 ghost use Rattle.tables.specs.Table.{at, put};
 ghost use Rattle.counters.specs.Counters.{zeroed};
 ghost use Rattle.chain.specs.Chain.{chains};
 ghost use Rattle.kinds.specs.Kinds.{named};
 ghost use Rattle.group.specs.State.{stateOf, noSlot};
 ghost use Rattle.whole.specs.Whole.{whole};
-ghost use Rattle.score.specs.Desk.{nodeOf, desk};
-ghost use Rattle.score.specs.Steps.{act as isAct, stepWhole, stepOf};
-ghost use Rattle.score.specs.Ready.{Ready};
-ghost use Rattle.score.specs.Parts.{codeOf, fieldRefusal, outcome, reached};
+ghost use Rattle.score.specs.Place.{nodeOf};
+ghost use Rattle.score.specs.Steps.{stepWhole, stepOf};
+ghost use Rattle.score.specs.Parts.{reached};
 
 // What a step answers, and the group after it.
 pub struct After {
     pub answer: Answer,
     pub group: Group,
-}
-
-// Refusals 16 to 18, or none of them.
-enum Fault {
-    Code(u32),
-    Nothing,
-}
-
-// Does a field that is used name one of the first `count`; one that is not used does not matter.
-fn inside(used: bool, i: u8, count: u8) -> bool
-    ensures { λ r. ⌜ r ≡ (not used || ltb i count) ⌝ }
-{
-    !used || i < count
-}
-
-// Refusals 16 to 18, by the table of kinds.
-fn field_fault(nodes: u8, cells: u8, x: Step) -> Fault
-    ensures { λ r. ⌜ codeOf r ≡ fieldRefusal nodes cells x ⌝ }
-{
-    let known = kinds::known(x.kind);
-    let u = kinds::uses(x.kind);
-    let node = inside(u.node, x.node, nodes);
-    let slot = inside(u.slot, x.slot, 32);
-    let cell = inside(u.cell, x.cell, cells);
-    if !known {
-        return Fault::Code(16);
-    }
-    if !node {
-        return Fault::Code(17);
-    }
-    if !(slot & cell) {
-        return Fault::Code(18);
-    }
-    Fault::Nothing
 }
 
 // The node whose counters the step may move.
@@ -83,73 +43,6 @@ pub fn place(x: Step, slot: Slot) -> u8
         return slot.origin;
     }
     x.node
-}
-
-// The step of a transaction's slot and a node's counters, over the tables: refusals 16 to 18 come first, then its kind.
-pub fn act(
-    x: Step,
-    slot: Slot,
-    c: Counters,
-    nodes: u8,
-    cells: u8,
-    masks: &[u8; 32],
-    flight: &mut [u64; 256],
-    lens: &mut [u8; 256],
-    versions: &mut [u64; 2048],
-    writes: &mut [u64; 1024],
-    reads: &mut [u64; 1024],
-) -> Turn
-    requires { ⌜ Ready nodes cells slot (now writes) ⌝ }
-    ensures { λ r. ⌜ outcome r nodes cells (now (masks .entry)) (now (flight .exit)) (chains (now (lens .exit)) (now (versions .exit))) (now (writes .exit)) (now (reads .exit)) ≡ isAct (desk nodes cells (now (masks .entry)) slot c (now (flight .entry)) (chains (now (lens .entry)) (now (versions .entry))) (now (writes .entry)) (now (reads .entry))) x ⌝ }
-{
-    let fault = field_fault(nodes, cells, x);
-    if let Fault::Code(code) = fault {
-        return group::refused(code, slot, c);
-    }
-    let k = kinds::whole(x.kind);
-    if k <= 5 {
-        return by_kind::to_return(
-            x,
-            slot,
-            c,
-            nodes,
-            cells,
-            masks,
-            flight,
-            lens,
-            versions,
-            writes,
-            reads,
-        );
-    }
-    if k <= 9 {
-        return by_kind::to_give_up(
-            x,
-            slot,
-            c,
-            nodes,
-            cells,
-            masks,
-            flight,
-            lens,
-            versions,
-            writes,
-            reads,
-        );
-    }
-    by_kind::to_abandon(
-        x,
-        slot,
-        c,
-        nodes,
-        cells,
-        masks,
-        flight,
-        lens,
-        versions,
-        writes,
-        reads,
-    )
 }
 
 // ---- the one slot and the one node's counters, taken and put back
@@ -229,7 +122,7 @@ pub fn step_whole(
     let slot = slot_at(slots, x.slot);
     let n = place(x, slot);
     let c = counters_at(counters, n);
-    let turn = act(
+    let turn = desk::act(
         x,
         slot,
         c,
@@ -269,7 +162,7 @@ pub fn step(
 ) -> After
     ensures { λ r. ⌜ reached r (now (flight .exit)) (chains (now (lens .exit)) (now (versions .exit))) (now (writes .exit)) (now (reads .exit)) ≡ stepOf (stateOf g (now (flight .entry)) (chains (now (lens .entry)) (now (versions .entry))) (now (writes .entry)) (now (reads .entry))) x ⌝ }
 {
-    if !whole::whole(g, flight, lens, versions, writes, reads) {
+    if !judge::whole(g, flight, lens, versions, writes, reads) {
         return After {
             answer: Answer::Refused(15),
             group: g,

@@ -24,8 +24,8 @@ use Rattle.chain.specs.declared.Version.{Version}
 use Rattle.group.specs.State.{State, holds, finished, tagAt, numberAt, entered, unfinished, noted, has, slotAt, countersAt}
 use Rattle.settle.specs.Settle.{stored, applied, applyChains, applyFlight}
 use Rattle.settle.specs.Settle as Settle
-use Rattle.score.specs.Desk.{placeOf, deskOf, putBack}
-use Rattle.score.specs.Steps.{needs, does}
+use Rattle.score.specs.Place.{placeOf, deskOf, putBack}
+use Rattle.desk.specs.Acts.{needs, does}
 use Rattle.serial.specs.Serial.{Handed}
 use Rattle.serial.proofs.Applied as Applied
 use Rattle.settle.proofs.Reasons.{First, first as first-of, apply-first, advance-idle}

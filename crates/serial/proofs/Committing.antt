@@ -19,8 +19,9 @@ use Rattle.group.specs.declared.Stage.{Stage}
 use Rattle.group.specs.declared.Stage.the-variants.{Voting, Committed}
 use Rattle.group.specs.State.{State, holds, has, writer, involved, stageNumber, finalOf, atStage, slotAt, countersAt}
 use Rattle.decide.specs.Decide.{commitTurn, sentTo, commitFlight}
-use Rattle.score.specs.Desk.{placeOf, deskOf, putBack, turned, withFlight}
-use Rattle.score.specs.Steps.{needs, does}
+use Rattle.desk.specs.Desk.{turned, withFlight}
+use Rattle.score.specs.Place.{placeOf, deskOf, putBack}
+use Rattle.desk.specs.Acts.{needs, does}
 use Rattle.serial.specs.Serial.{Handed}
 use Rattle.serial.proofs.Inv.{Ground, Nodes, Slots, Transaction, Writes, writes}
 use Rattle.serial.proofs.Views.{All, fixedAt, groundOf, nodesOf, same-counters, setSlot, setTables, slotsOf}

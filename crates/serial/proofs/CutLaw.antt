@@ -12,12 +12,13 @@ use Rattle.group.specs.declared.Slot.{Slot}
 use Rattle.group.specs.declared.Stage.{Stage}
 use Rattle.group.specs.declared.Stage.the-variants.{Unused, Open, Asking, Served, Voting, Committed, Aborted}
 use Rattle.group.specs.State.{has, writer, askOf, finalOf, committed, inStage}
-use Rattle.read.specs.Read.{askTurn, readAt, blocked, serveTurn, spoilt, returnTurn}
+use Rattle.ask.specs.Ask.{askTurn}
+use Rattle.read.specs.Read.{readAt, blocked, serveTurn, spoilt, returnTurn}
 use Rattle.vote.specs.Vote.{Vote, votes-yes, votes-no, prepareTurn, voteRise}
 use Rattle.decide.specs.Decide.{commitTurn, refusedBy, decideTurn}
-use Rattle.settle.specs.Settle.{learnTurn}
-use Rattle.score.specs.Desk.{Desk, withCounters}
-use Rattle.score.specs.Steps.{does, voteOf, rise, cuts}
+use Rattle.learn.specs.Learn.{learnTurn}
+use Rattle.desk.specs.Desk.{Desk, withCounters}
+use Rattle.desk.specs.Acts.{does, voteOf, rise, cuts}
 
 -- the desk with the counter that another has, and nothing else of it
 abbrev pub withCounter : Desk → Counters → Desk

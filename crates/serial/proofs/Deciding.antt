@@ -26,8 +26,9 @@ use Rattle.group.specs.Answer.{turn}
 use Rattle.group.specs.State.{State, sent, votedNo, votedYes, tagAt, stageNumber, askOf, noteOf, finalOf, atStage, slotAt, countersAt}
 use Rattle.decide.specs.Decide.{refusedBy, lacking, decideTests, final, decideTurn}
 use Rattle.decide.proofs.Reasons.{final-most}
-use Rattle.score.specs.Desk.{placeOf, deskOf, putBack, turned}
-use Rattle.score.specs.Steps.{needs, does}
+use Rattle.desk.specs.Desk.{turned}
+use Rattle.score.specs.Place.{placeOf, deskOf, putBack}
+use Rattle.desk.specs.Acts.{needs, does}
 use Rattle.serial.specs.Serial.{Handed}
 use Rattle.serial.proofs.Inv.{Ground, Inv, Nodes, Slots, Transaction, Writes, writes}
 use Rattle.serial.proofs.Decided.{decided}

@@ -16,9 +16,9 @@ use Rattle.counters.specs.Counters.{countedTo}
 use Rattle.kinds.specs.declared.Step.{Step}
 use Rattle.kinds.specs.Kinds.{learn}
 use Rattle.group.specs.State.{State, toApply, finished, tagAt, numberAt, entered, committed, inStage, slotAt, countersAt}
-use Rattle.settle.specs.Settle.{learnTests, learnTurn, learnFlight}
-use Rattle.score.specs.Desk.{placeOf, deskOf, putBack}
-use Rattle.score.specs.Steps.{needs, does}
+use Rattle.learn.specs.Learn.{learnTests, learnTurn, learnFlight}
+use Rattle.score.specs.Place.{placeOf, deskOf, putBack}
+use Rattle.desk.specs.Acts.{needs, does}
 use Rattle.serial.specs.Serial.{Handed}
 use Rattle.serial.proofs.Inv.{Ground, Nodes, Slots, Took, Transaction}
 use Rattle.serial.proofs.Joins.{Entry, JoinsAt, away, here, withEntries}

@@ -11,9 +11,9 @@ use Rattle.kinds.specs.declared.Step.{Step}
 use Rattle.group.specs.declared.Answer.the-variants.{Refused}
 use Rattle.group.specs.State.{State}
 use Rattle.whole.specs.Whole.{whole}
-use Rattle.score.specs.Desk.{deskOf}
-use Rattle.score.specs.Steps.{does, stepWhole, stepOf}
-use Rattle.score.proofs.Codes.{Answered, answered}
+use Rattle.score.specs.Place.{deskOf}
+use Rattle.score.specs.Steps.{stepWhole, stepOf}
+use Rattle.desk.proofs.Codes.{Answered, answered}
 use Rattle.serial.specs.Serial.{Sound, Steps32, Run, handedBy, start, next, runOf}
 use Rattle.serial.proofs.Views.{All}
 use Rattle.serial.proofs.Shape.{Shape}

@@ -21,8 +21,9 @@ use Rattle.group.specs.declared.Snapshot.{Snapshot}
 use Rattle.group.specs.declared.Snapshot.the-variants.{Unfixed, Fixed}
 use Rattle.group.specs.State.{State, holds, votedNo, votedYes, tagAt, numberAt, entered, snapshotOf, slotAt, countersAt}
 use Rattle.vote.specs.Vote.{prepareTests, votes-yes, votes-no, vote, prepareTurn, prepareFlight, Vote}
-use Rattle.score.specs.Desk.{placeOf, deskOf, putBack, turned, withFlight}
-use Rattle.score.specs.Steps.{needs, does, voteOf}
+use Rattle.desk.specs.Desk.{turned, withFlight}
+use Rattle.score.specs.Place.{placeOf, deskOf, putBack}
+use Rattle.desk.specs.Acts.{needs, does, voteOf}
 use Rattle.serial.specs.Serial.{Handed}
 use Rattle.vote.proofs.Reasons.{yes-alone, yes-room, yes-current, yes-number}
 use Rattle.serial.proofs.Inv.{Ground, Into, Nodes, Slots, Transaction, Writes, into, writes}

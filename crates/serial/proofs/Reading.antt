@@ -30,9 +30,10 @@ use Rattle.group.specs.declared.Answer.the-variants.{Done, Value, Wait}
 use Rattle.group.specs.declared.Answer.the-variants as Answer
 use Rattle.group.specs.Answer.{turn}
 use Rattle.group.specs.State.{State, holds, stageNumber, askOf, noteOf, finalOf, atStage, slotAt, countersAt}
-use Rattle.read.specs.Read.{readAt, blocked, noteFor, waitFor, serveTurn, spoilt, returnTurn, returnReads}
-use Rattle.score.specs.Desk.{placeOf, deskOf, putBack, turned, withReads}
-use Rattle.score.specs.Steps.{needs, does}
+use Rattle.read.specs.Read.{readAt, blocked, noteFor, waitFor, spoilt, returnTurn, returnReads}
+use Rattle.desk.specs.Desk.{turned, withReads}
+use Rattle.score.specs.Place.{placeOf, deskOf, putBack}
+use Rattle.desk.specs.Acts.{needs, does}
 use Rattle.serial.specs.Serial.{Handed}
 use Rattle.read.proofs.Reasons.{nothing-to-come}
 use Rattle.read.proofs.Laws.{serve-waits, serve-notes}

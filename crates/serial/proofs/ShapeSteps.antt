@@ -29,11 +29,14 @@ use Rattle.group.specs.Answer.{turn}
 use Rattle.group.specs.State.{State, votedNo, votedYes, toApply, finished, entered, writer, involved, committed, stageNumber, finalOf, inStage, atStage, slotAt, countersAt}
 use Rattle.vote.specs.Vote.{prepareTests, reason, voteFor, vote, prepareTurn, prepareFlight}
 use Rattle.decide.specs.Decide.{commitTurn, sentTo, commitFlight, refusedBy, decideTests, final, decideTurn}
-use Rattle.settle.specs.Settle.{learnTests, learnTurn, learnFlight, applied, applyChains, applyFlight}
+use Rattle.learn.specs.Learn.{learnTests, learnTurn, learnFlight}
+use Rattle.settle.specs.Settle.{applied, applyChains, applyFlight}
 use Rattle.settle.specs.Settle as Settle
 use Rattle.life.specs.Life.{giveUpTests, abandonTests}
-use Rattle.score.specs.Desk.{placeOf, deskOf, putBack, turned, withFlight}
-use Rattle.score.specs.Steps.{fieldTests, needs, does, cuts, refuses, judge, act, stepWhole}
+use Rattle.desk.specs.Desk.{turned, withFlight}
+use Rattle.score.specs.Place.{placeOf, deskOf, putBack}
+use Rattle.desk.specs.Acts.{fieldTests, needs, does, cuts, refuses, judge, act}
+use Rattle.score.specs.Steps.{stepWhole}
 use Rattle.serial.specs.Serial.{Handed}
 use Rattle.settle.proofs.Reasons.{First, first as first-of, apply-first}
 use Rattle.serial.proofs.Inv.{Slots, Writes, writes}

@@ -34,10 +34,12 @@ use Rattle.group.specs.declared.Answer.the-variants.{Done, Value, Wait}
 use Rattle.group.specs.declared.Answer.the-variants as Answer
 use Rattle.group.specs.Answer.{turn}
 use Rattle.group.specs.State.{State, noted, has, involved, touched, stageNumber, askOf, noteOf, finalOf, atStage, slotAt, countersAt}
-use Rattle.read.specs.Read.{askFor, askTests, askTurn, readAt, blocked, valueOf, noteFor, waitFor, serveTurn, spoilt, returnTurn, returnReads}
-use Rattle.score.specs.Desk.{placeOf, deskOf, putBack, turned, withReads}
+use Rattle.ask.specs.Ask.{askFor, askTests, askTurn}
+use Rattle.read.specs.Read.{readAt, blocked, valueOf, noteFor, waitFor, serveTurn, spoilt, returnTurn, returnReads}
+use Rattle.desk.specs.Desk.{turned, withReads}
+use Rattle.score.specs.Place.{placeOf, deskOf, putBack}
 use Rattle.life.specs.Life.{beginTests, opens, cleared, writeTests}
-use Rattle.score.specs.Steps.{needs, does}
+use Rattle.desk.specs.Acts.{needs, does}
 use Rattle.serial.specs.Serial.{Handed}
 use Rattle.serial.proofs.Inv.{Given, Slots}
 use Rattle.serial.proofs.Views.{All, Sizes, fixedAt, groundOf, nodesOf, same-slot, setSlot, slotsOf}

@@ -26,10 +26,11 @@ use Rattle.counters.specs.declared.Counters.{Counters}
 use Rattle.group.specs.declared.Turn.{Turn}
 use Rattle.group.specs.declared.Answer.the-variants.{Done, Value}
 use Rattle.group.specs.Answer.{turn}
-use Rattle.read.specs.Read.{askTests, askFor, askTurn}
-use Rattle.score.specs.Desk.{placeOf, deskOf, putBack, turned}
+use Rattle.ask.specs.Ask.{askTests, askFor, askTurn}
+use Rattle.desk.specs.Desk.{turned}
+use Rattle.score.specs.Place.{placeOf, deskOf, putBack}
 use Rattle.life.specs.Life.{beginTests, opens, cleared, writeTests, giveUpTests, abandonTests}
-use Rattle.score.specs.Steps.{needs, does}
+use Rattle.desk.specs.Acts.{needs, does}
 use Rattle.serial.specs.Serial.{Handed}
 use Rattle.serial.proofs.Inv.{Ground, Nodes, Slots}
 use Rattle.serial.proofs.Views.{All, fixedAt, groundOf, nodesOf, same-slot, setSlot, slotsOf}

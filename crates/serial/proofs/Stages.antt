@@ -12,7 +12,8 @@ use Rattle.group.specs.declared.Stage.the-variants.{Unused, Open, Asking, Serve
 use Rattle.group.specs.State.{State, stageNumber, askOf, noteOf, finalOf, atStage, slotAt, countersAt}
 use Rattle.counters.specs.declared.Counters.{Counters}
 use Rattle.group.specs.declared.Turn.{Turn}
-use Rattle.score.specs.Desk.{placeOf, deskOf, putBack, turned}
+use Rattle.desk.specs.Desk.{turned}
+use Rattle.score.specs.Place.{placeOf, deskOf, putBack}
 use Rattle.serial.specs.Serial.{Handed}
 use Rattle.serial.proofs.Inv.{Ground, Nodes, Reading, Slots, Transaction}
 use Rattle.serial.proofs.Quiet.{QuietAt}

@@ -29,10 +29,12 @@ use Rattle.group.specs.State.{State, noteOf, slotAt, countersAt}
 use Rattle.whole.specs.Whole.{whole}
 use Rattle.read.specs.Read.{spoilt, returnTurn}
 use Rattle.vote.specs.Vote.{reason, voteFor, vote, voteRise}
-use Rattle.settle.specs.Settle.{learnTests}
-use Rattle.score.specs.Desk.{nodeOf, placeOf, deskOf, putBack, Outcome}
-use Rattle.score.specs.Steps.{fieldTests, needs, does, rise, cuts, refuses, judge, act, stepWhole, stepOf}
-use Rattle.score.proofs.Codes.{Accepted, refused-coded}
+use Rattle.learn.specs.Learn.{learnTests}
+use Rattle.desk.specs.Desk.{Outcome}
+use Rattle.score.specs.Place.{nodeOf, placeOf, deskOf, putBack}
+use Rattle.desk.specs.Acts.{fieldTests, needs, does, rise, cuts, refuses, judge, act}
+use Rattle.score.specs.Steps.{stepWhole, stepOf}
+use Rattle.desk.proofs.Codes.{Accepted, refused-coded}
 use Rattle.serial.specs.Serial.{Handed, Run, handedBy, next, runOf, Steps32}
 use Rattle.serial.proofs.Views.{slotsOf, All, setCounters, setSlot, same-counters, same-slot}
 use Rattle.serial.proofs.Change.{any-counters, counted-to}

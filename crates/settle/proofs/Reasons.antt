@@ -1,47 +1,24 @@
--- Why rules D and E and advance are as they are: what every learn, apply and advance leaves behind, said of its outcome and of the
--- tables, and not of how the rule is written.
+-- Why rule E and advance are as they are: what every apply and advance leaves behind, said of its outcome and of the tables, and not of how
+-- the rule is written.
 -- Assumes nothing.
-use mathlib.Core.Path.{_≡_, refl, ap, _∙_}
+use mathlib.Core.Path.{_≡_, refl}
 use mathlib.Core.Bool.{true, false}
 use mathlib.Core.List.{List}
 use mathlib.Core.Option.{Option, none, some}
-use Prim.Native.Nat.{ℕ, _/_, _≤_, _<_}
+use Prim.Native.Nat.{ℕ, _≤_, _<_}
 use native.Mathlib.Omega.{arith}
 use lib.ListN.{length}
 use borrow.Author.Tests.{ltb-true, eqb-true, not-true}
-use Rattle.tables.specs.Pair.{pair, word}
-use Rattle.tables.proofs.Choice.{by-test, and-true, not-both}
-use Rattle.tables.proofs.Table.{put-same}
-use Rattle.tables.proofs.Pair.{pair-high}
+use Rattle.tables.specs.Pair.{pair}
+use Rattle.tables.proofs.Choice.{and-true, not-both}
 use Rattle.tables.proofs.Loop.{any-at, Least, least as is-least, least-is}
 use Rattle.tables.proofs.Tests.{Passed}
 use Rattle.counters.specs.declared.Counters.{Counters}
 use Rattle.group.specs.declared.Slot.{Slot}
-use Rattle.group.specs.State.{toApply, finished, tagAt, numberAt, entered, unfinished, committed, finalOf, inStage}
+use Rattle.group.specs.State.{toApply, tagAt, numberAt, unfinished}
 use Rattle.group.specs.Answer.{said}
-use Rattle.settle.specs.Settle.{learnTurn, learnFlight, least, isLearned, applyTests, applied, applyTurn, applyFlight, advanceTests}
-
--- ---- rule D
-
--- The counter is saved before a decision is entered: it is at least the final number that the learn answers.
-pub learn-saves : (slot : Slot) (c : Counters) → said (learnTurn slot c .answer) .number ≤ learnTurn slot c .counters .counter
-unfolding learnTurn
-learn-saves slot c = by-test (inStage slot committed) (λ e. rw (e, learnTurn) (omega arith)) (λ e. rw (e, learnTurn) (omega arith))
-
--- and where the transaction is committed, that is its final number
-pub learn-answers : (slot : Slot) (c : Counters) → inStage slot committed ≡ true → said (learnTurn slot c .answer) .number ≡ finalOf (slot .stage)
-unfolding learnTurn
-learn-answers slot c e = rw (e, learnTurn)
-
--- an entry that is made finished is unfinished no more
-dropped : (flight : List ℕ) (t n : ℕ) → pair 8 t n < length flight → unfinished (entered flight t n finished 0) t n ≡ false
-unfolding unfinished
-dropped flight t n l = let z : tagAt (entered flight t n finished 0) t n ≡ 5 = ap (_/ word) (put-same flight (pair 8 t n) (pair word 5 0) 0 l) ∙ pair-high word 5 0 (omega arith) in rw z
-
--- An abort's locks go: whatever the entry was, it is unfinished no more.
-pub abort-unlocks : (slot : Slot) (flight : List ℕ) (t n : ℕ) → pair 8 t n < length flight → inStage slot committed ≡ false → unfinished (learnFlight slot flight t n) t n ≡ false
-unfolding learnFlight
-abort-unlocks slot flight t n l e = rw (e, learnFlight) (dropped flight t n l)
+use Rattle.group.proofs.Entries.{dropped}
+use Rattle.settle.specs.Settle.{least, isLearned, applyTests, applied, applyTurn, applyFlight, advanceTests}
 
 -- ---- rule E
 

@@ -21,7 +21,7 @@ use Rattle.counters.specs.declared.Counters.{Counters}
 use Rattle.chain.specs.Chain.{Chains, lenAt, latest, hasRoom}
 use Rattle.group.specs.declared.Slot.{Slot}
 use Rattle.group.specs.declared.Answer.the-variants.{Yes}
-use Rattle.group.specs.State.{holds, tagAt, unfinished, noted, has, voting, committed, aborted, stageNumber, snapshotOf}
+use Rattle.group.specs.State.{holds, tagAt, unfinished, noted, has, committed, aborted, stageNumber, snapshotOf}
 use Rattle.vote.specs.Vote.{prepareTests, bars, rival, conflict, behind, outdated, crammed, full, exists, reason, Vote, votes-yes, votes-no, voteFor, vote, prepareTurn}
 use Rattle.vote.proofs.Laws.{no-2, no-3, by-proposal}
 

@@ -7,7 +7,7 @@ use Prim.Native.Nat.{ℕ, _+_, _-_, _^_}
 use lib.Dec.{leb, ltb, eqb}
 use Rattle.tables.specs.Table.{at}
 use Rattle.tables.specs.Pair.{word}
-use Rattle.tables.specs.Loop.{any, every}
+use Rattle.tables.specs.Loop.{every}
 use Rattle.chain.specs.Chain.{Chains, chains, lenAt, versionAt, latest, hasRoom}
 use Rattle.group.specs.declared.Slot.{Slot}
 use Rattle.group.specs.State.{State, holds, idle, sent, votedYes, toApply, finished, tagAt, numberAt, unfinished, has, writer, involved, unused, asking, served, voting, committed, aborted, stageNumber, askOf, noteOf, finalOf, isFixed, inStage, noSlot, slotAt}

@@ -1,19 +1,18 @@
-// Is a state whole? The paper's paragraph, a module for each of its sentences. Any state may be handed in: the counts are tested first, and
-// once they are in range no test leaves a table, so that the others are joined by `&` and all tried. A whole state is the usual case, and
-// for it nothing would be gained by stopping early.
-mod chains;
+// Is a state whole? The paper's paragraph, a module for each of its sentences: here what it says of counts, masks, transactions and their flight
+// entries. Once the counts are in range no test leaves a table, so that the others are joined by `&` and all tried. A whole state is the
+// usual case, and for it nothing would be gained by stopping early.
 mod entries;
-mod pending;
 mod ranges;
 mod slots;
 
-use group::Group;
+pub use crate::ranges::counts_sound;
+pub use crate::ranges::flight_sound;
+pub use crate::ranges::masks_sound;
+pub use crate::ranges::notes_sound;
 use group::Slot;
 ghost use mathlib.Core.Path.{_≡_};
 ghost use Prim.Native.Nat.{_≤_, _<_};
-ghost use Rattle.chain.specs.Chain.{chains};
-ghost use Rattle.group.specs.State.{stateOf};
-ghost use Rattle.whole.specs.Whole.{slotWhole, slotsWhole, whole as wholeOf};
+ghost use Rattle.whole.specs.Whole.{slotWhole, slotsWhole};
 
 // All that is said of one transaction.
 fn transaction_sound(
@@ -37,7 +36,7 @@ fn transaction_sound(
         & entries::committed_sound(nodes, cells, slot, flight, writes, t)
 }
 
-fn transactions_sound(
+pub fn transactions_sound(
     nodes: u8,
     cells: u8,
     masks: &[u8; 32],
@@ -57,31 +56,4 @@ fn transactions_sound(
         t = t + 1;
     }
     ok
-}
-
-// Of any state whatever.
-pub fn whole(
-    g: Group,
-    flight: &[u64; 256],
-    lens: &[u8; 256],
-    versions: &[u64; 2048],
-    writes: &[u64; 1024],
-    reads: &[u64; 1024],
-) -> bool
-    ensures { λ r. ⌜ r ≡ wholeOf (stateOf g (now (flight .entry)) (chains (now (lens .entry)) (now (versions .entry))) (now (writes .entry)) (now (reads .entry))) ⌝ }
-{
-    let nodes = g.nodes;
-    let cells = g.cells;
-    if !ranges::counts_sound(nodes, cells) {
-        return false;
-    }
-    let masks = g.masks;
-    let slots = g.slots;
-    ranges::masks_sound(nodes, cells, &masks)
-        & ranges::flight_sound(nodes, flight)
-        & ranges::notes_sound(writes)
-        & ranges::notes_sound(reads)
-        & transactions_sound(nodes, cells, &masks, slots, flight, writes, reads)
-        & chains::chains_sound(nodes, cells, &masks, lens, versions)
-        & pending::nodes_sound(nodes, cells, &masks, flight, lens, versions, writes)
 }

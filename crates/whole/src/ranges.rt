@@ -3,7 +3,7 @@ ghost use mathlib.Core.Path.{_≡_};
 ghost use Prim.Native.Nat.{_≤_, _<_};
 ghost use Rattle.whole.specs.Whole.{countsSound, maskSound, masksSound, entrySound, rowSound, flightSound, notesSound};
 
-pub(crate) fn counts_sound(nodes: u8, cells: u8) -> bool
+pub fn counts_sound(nodes: u8, cells: u8) -> bool
     ensures { λ r. ⌜ r ≡ countsSound nodes cells ⌝ }
 {
     (1 <= nodes) & (nodes <= 8) & (1 <= cells) & (cells <= 32)
@@ -24,7 +24,7 @@ fn mask_sound(nodes: u8, masks: &[u8; 32], c: u8) -> bool
     (0 < mask) & (mask >> nodes == 0)
 }
 
-pub(crate) fn masks_sound(nodes: u8, cells: u8, masks: &[u8; 32]) -> bool
+pub fn masks_sound(nodes: u8, cells: u8, masks: &[u8; 32]) -> bool
     requires { ⌜ (nodes ≤ 8) × (cells ≤ 32) ⌝ }
     ensures { λ r. ⌜ r ≡ masksSound nodes cells (now (masks .entry)) ⌝ }
 {
@@ -62,7 +62,7 @@ fn row_sound(nodes: u8, flight: &[u64; 256], t: u8) -> bool
     ok
 }
 
-pub(crate) fn flight_sound(nodes: u8, flight: &[u64; 256]) -> bool
+pub fn flight_sound(nodes: u8, flight: &[u64; 256]) -> bool
     ensures { λ r. ⌜ r ≡ flightSound nodes (now (flight .entry)) ⌝ }
 {
     let mut ok = true;
@@ -75,7 +75,7 @@ pub(crate) fn flight_sound(nodes: u8, flight: &[u64; 256]) -> bool
 }
 
 // Nothing, or one more than a value.
-pub(crate) fn notes_sound(table: &[u64; 1024]) -> bool
+pub fn notes_sound(table: &[u64; 1024]) -> bool
     ensures { λ r. ⌜ r ≡ notesSound (now (table .entry)) ⌝ }
 {
     let mut ok = true;

@@ -1,6 +1,5 @@
 -- `group::unfinished` meets its contract: the two ends of the range of tags.
 -- Assumes nothing.
-use mathlib.Core.Path.{sym}
 use borrow.Author.Tests.{le-leb, lt-leb}
 use borrow.Author.Needs.{needs}
 use Rattle.group.specs.State.{unfinished}

@@ -1,0 +1,4 @@
+pub mod Desk
+pub mod Acts
+pub mod Ready
+pub mod Parts
