@@ -3,7 +3,7 @@
 -- Assumes nothing.
 use mathlib.Core.Path.{_≡_, refl}
 use mathlib.Core.Logic.{_≢_}
-use mathlib.Core.List.{List, [], map}
+use mathlib.Core.List.{List, [], _++_, map}
 use mathlib.Core.Bool.{true}
 use mathlib.Core.Option.{Option, some}
 use Prim.Native.Nat.{ℕ, _+_, _^_, _≤_, _<_}
@@ -36,6 +36,8 @@ use Rattle.text.proofs.Digits.{decimal-first, decimal-only}
 use Rattle.text.proofs.Placed.{placed-there, placed-before, placed-beyond}
 use Rattle.replay.specs.Replay.{textOf}
 use Rattle.replay.proofs.Longest.{longest-text}
+use Rattle.cilumbara.specs.Library.{rewriteOf}
+use Rattle.cilumbara.proofs.Laws.{rewrite-same}
 use Rattle.serial.specs.Serial as Group
 use Rattle.serial.specs.Serial.{Steps32, start, runOf, Serial}
 use Rattle.serial.proofs.Theorem.{serial}
@@ -124,6 +126,12 @@ pub stored-means :
     × ((n : ℕ) → n ≤ i → take n (stored out i k x) ≡ take n out)
     × ((n : ℕ) → i + k ≤ n → drop n (stored out i k x) ≡ drop n out)
 stored-means out i k x = (number-stored out i k x, stored-before out i k x, stored-past out i k x)
+
+-- The library's function that writes a file anew gives 0 and the same bytes for every sound file that fits.
+pub rewritten-same :
+    (b : List ℕ) (f : File) (r : List ℕ) (out : List ℕ) → Bytes b → readFile b ≡ got f r → length b ≤ length out
+    → rewriteOf (readFile b) out ≡ record { code = 0; out = b ++ drop (length b) out }
+rewritten-same = rewrite-same
 
 -- An input longer than the longest file is judged by its first 32,965 bytes, which is all that the run program reads.
 pub longer-judged : (b : List ℕ) → 32965 ≤ length b → readFile (take 32965 b) ≡ readFile b
