@@ -83,10 +83,10 @@ static const struct sort sorts[] = {
     /* The rest are made otherwise; "damaged" starts from runs like these. */
     { "damaged", 420, {1, 8}, {1, 8}, {0, 40}, SMALL, 4, 4,
       30, 35, 33, 80, 10, 10, 30 },
-    { "prefixes", 0, {0, 0}, {0, 0}, {0, 0}, ZERO, 0, 0, 0, 0, 0, 0, 0, 0, 0 },
-    { "fields", 0, {0, 0}, {0, 0}, {0, 0}, ZERO, 0, 0, 0, 0, 0, 0, 0, 0, 0 },
-    { "places", 0, {0, 0}, {0, 0}, {0, 0}, ZERO, 0, 0, 0, 0, 0, 0, 0, 0, 0 },
-    { "examples", 0, {0, 0}, {0, 0}, {0, 0}, ZERO, 0, 0, 0, 0, 0, 0, 0, 0, 0 },
+    { .name = "prefixes" },
+    { .name = "fields" },
+    { .name = "places" },
+    { .name = "examples" },
 };
 enum { SORTS = sizeof sorts / sizeof sorts[0] };
 enum { LONG = 8, DAMAGED, PREFIXES, FIELDS, PLACES, EXAMPLES };

@@ -1,4 +1,4 @@
--- `show::show` is safe: the text that is printed lies in the space.
+-- `show::show` meets its contract: the replay leaves the text in the space, and what is printed lies there.
 -- Assumes nothing.
 use mathlib.Core.Path.{sym}
 use lib.Seq.{length-take-le}
