@@ -1,5 +1,7 @@
 // Step 3, ask. It takes the transaction's slot and the origin's counters, and gives both anew with its answer; the tables are looked at where
 // they lie. For callers that know their places to be in range. The step is refused first, in the order of the codes; then it is cut, or whole.
+#![tactic(auto)]
+
 ghost use Rattle.std.specs.Prelude.{◌≡◌, not, ◌&&◌, ◌||◌, ◌≤◌, ◌<◌, eqb};
 ghost use Rattle.tables.specs.Tests.{refusal};
 ghost use Rattle.group.specs.State.{holds, noted, has, opened, stage_number};

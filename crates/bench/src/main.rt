@@ -1,4 +1,6 @@
 // Replays many files from one input, each after its length of four bytes, and prints what each comes to, one after the other.
+#![tactic(auto)]
+
 ghost use Rattle.std.specs.Prelude.{◌≡◌, length};
 
 // Longer than the longest file, for inputs that are too long.

@@ -13,7 +13,7 @@ use borrow.Author.Tests.{ltb-true, leb-true, leb-false, lt-ltb, le-ltb, le-leb, 
 use Rattle.tables.specs.Table.{at, put}
 use Rattle.tables.specs.Pair.{pair, word}
 use Rattle.tables.specs.Loop.{last_at}
-use Rattle.tables.proofs.Choice.{by-test, and_true}
+use Rattle.tables.proofs.Choice.{by_test, and_true}
 use Rattle.tables.proofs.Table.{put_size, put_same, put_other}
 use Rattle.tables.proofs.Pair.{pair_high, pair_low}
 use Rattle.tables.proofs.Loop.{last_at_none, last_at_next, Last, no_last, last, last_is}
@@ -36,7 +36,7 @@ module _ (lens : List ℕ) (c n : ℕ) where
   -- what has a length is a chain
   pub len_chain : len_at lens c n ≤ 8 → (c < 32) × (n < 8)
   unfolding len_at
-  len_chain h = by-test (ltb c 32 && ltb n 8) (λ e. let r = and_true (ltb c 32) (ltb n 8) e in (ltb-true c 32 r.0, ltb-true n 8 r.1))
+  len_chain h = by_test (ltb c 32 && ltb n 8) (λ e. let r = and_true (ltb c 32) (ltb n 8) e in (ltb-true c 32 r.0, ltb-true n 8 r.1))
       (λ e. let l : 9 ≤ 8 = rw e at h in absurd (omega arith))
 
   pub size_in : len_at lens c n ≤ 8 → size lens c n ≡ len_at lens c n
@@ -48,11 +48,11 @@ module _ (lens : List ℕ) (c n : ℕ) where
   size_out h = rw (lt-leb (len_at lens c n) 8 h)
 
   pub size_low : size lens c n ≤ 8
-  size_low = by-test (leb (len_at lens c n) 8) (λ e. omega (arith, leb-true, size_in (leb-true _ _ e))) (λ e. omega (arith, size_out (leb-false _ _ e)))
+  size_low = by_test (leb (len_at lens c n) 8) (λ e. omega (arith, leb-true, size_in (leb-true _ _ e))) (λ e. omega (arith, size_out (leb-false _ _ e)))
 
   -- what has a version is a chain
   pub size_chain : 0 < size lens c n → (c < 32) × (n < 8)
-  size_chain h = by-test (leb (len_at lens c n) 8) (λ e. len_chain (leb-true _ _ e)) (λ e. absurd (omega (arith, size_out (leb-false _ _ e))))
+  size_chain h = by_test (leb (len_at lens c n) 8) (λ e. len_chain (leb-true _ _ e)) (λ e. absurd (omega (arith, size_out (leb-false _ _ e))))
 
 -- ---- the lookup, newest first
 

@@ -1,16 +1,18 @@
 // The chains of versions: each holder of a cell keeps up to 8, oldest first. All chains lie in two tables that the caller lends, their
 // lengths and their versions, and are looked up and added to where they lie. Every function takes any cell, node and tables: a cell or a
 // node that there is none of, and a length that no chain has, are a chain with no version and no room.
+#![tactic(auto)]
+
 ghost use Rattle.std.specs.Prelude.{◌≡◌, ◌≤◌, ◌<◌, ltb};
 ghost use Rattle.chain.specs.Chain.{len_at, size as size_of, unpacked, version_at, newest as newest_of, latest as latest_of, has_room, chains, added, result_of};
 
-#[derive(Drop)]
+#[derive(Clone, Copy)]
 pub struct Version {
     pub number: u32,
     pub value: u32,
 }
 
-#[derive(Drop)]
+#[derive(Clone, Copy)]
 pub enum Lookup {
     Found(Version),
     Nothing,

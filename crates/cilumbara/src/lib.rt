@@ -1,5 +1,7 @@
 // The library for firmware: functions for C, over numbers and over bytes that the caller lends. Each takes any bytes and refuses what it
 // must. The header is include/cilumbara.h.
+#![tactic(auto)]
+
 ghost use Rattle.std.specs.Prelude.{◌≡◌, ◌*◌, ◌≤◌, length, take};
 ghost use Rattle.text.specs.Text.{placed};
 ghost use Rattle.runfile.specs.File.{read_file};

@@ -11,7 +11,7 @@ use lib.Dec.{ltb}
 use lib.ListN.{replicate, length-replicate}
 use borrow.Author.Tests.{ltb-true, ltb-false}
 use Rattle.tables.specs.Pair.{word}
-use Rattle.tables.proofs.Choice.{by-test, and_true}
+use Rattle.tables.proofs.Choice.{by_test, and_true}
 use Rattle.tables.proofs.Table.{at_all, at_past}
 use Rattle.kinds.specs.declared.Step.{Step}
 use Rattle.tables.specs.Table.{at, put}
@@ -58,7 +58,7 @@ computed = record { summed = refl; writer_0 = refl; writer_2 = refl; holders = (
 -- ---- the group is sound, and the steps' values have 32 bits
 
 zeros : (k n : ℕ) → at {A = ℕ} (replicate k 0) n 0 ≡ 0
-zeros k n = by-test (ltb n k) (λ e. at_all k n 0 0 (ltb-true _ _ e)) (λ e. at_past (replicate k 0) n 0 (omega (arith, ltb-false n k e, length-replicate {A = ℕ} k 0)))
+zeros k n = by_test (ltb n k) (λ e. at_all k n 0 0 (ltb-true _ _ e)) (λ e. at_past (replicate k 0) n 0 (omega (arith, ltb-false n k e, length-replicate {A = ℕ} k 0)))
 
 -- after two numbers the list goes on with zeros
 past_two : (x y n : ℕ) → at (x ∷ y ∷ replicate 30 0) (suc (suc n)) 0 ≡ 0

@@ -1,9 +1,11 @@
 // The counters of one node of the group. Every rule that moves one of them goes through this crate, so that no counter and no seen
 // number ever falls, whatever number a step brings.
+#![tactic(auto)]
+
 ghost use Rattle.std.specs.Prelude.{◌≡◌, max};
 ghost use Rattle.counters.specs.Counters.{raised_to, risen_to, counted_to, committed_at};
 
-#[derive(Drop)]
+#[derive(Clone, Copy)]
 pub struct Counters {
     pub counter: u32,
     pub commit: u32,

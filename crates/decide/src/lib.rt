@@ -1,6 +1,8 @@
 // What the origin does before the votes and after them: step 6, commit, and step 8, decide. Each moves one slot, which goes by value, and no
 // counter; of the tables, which the caller lends, commit changes the flight table, where it lies. The refusals come first, in their order;
 // then the cut step, which changes nothing; then the whole step. The functions are for callers that know their places to be in range.
+#![tactic(auto)]
+
 ghost use Rattle.std.specs.Prelude.{◌≡◌, cond, not, ◌||◌, ◌≤◌, ◌<◌, eqb};
 ghost use Rattle.tables.specs.Table.{at, put};
 ghost use Rattle.tables.specs.Pair.{pair, word};

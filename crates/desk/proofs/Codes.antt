@@ -7,7 +7,7 @@ use Prim.Native.Nat.{ℕ, ◌≤◌}
 use native.Mathlib.Omega.{arith}
 use lib.Dec.{leb}
 use Rattle.tables.specs.Tests.{refusal}
-use Rattle.tables.proofs.Choice.{by-test}
+use Rattle.tables.proofs.Choice.{by_test}
 use Rattle.tables.proofs.Tests.{Judged, passes, fails, Fails, here, later, judged}
 use Rattle.kinds.specs.declared.Step.{Step}
 use Rattle.kinds.specs.Kinds.{Kind, begin, write, ask, serve, return, commit, prepare, decide, give_up, learn, apply, advance, abandon, named}
@@ -87,15 +87,15 @@ done : (q : Desk) (x : Step) (k : Kind) → Answered (does q x k).answer
 unfolding does ask_turn serve_turn return_turn commit_turn decide_turn learn_turn
 done q x begin = tt
 done q x write = tt
-done q x ask = by-test (has q.writes x.slot x.cell) (λ e. rw (e, does, ask_turn) tt) (λ e. rw (e, does, ask_turn) tt)
-done q x serve = by-test (blocked q.flight q.writes (ask_of q.slot.stage).node (ask_of q.slot.stage).cell (read_at (ask_of q.slot.stage) q.counters))
+done q x ask = by_test (has q.writes x.slot x.cell) (λ e. rw (e, does, ask_turn) tt) (λ e. rw (e, does, ask_turn) tt)
+done q x serve = by_test (blocked q.flight q.writes (ask_of q.slot.stage).node (ask_of q.slot.stage).cell (read_at (ask_of q.slot.stage) q.counters))
     (λ e. rw (e, does, serve_turn) tt) (λ e. rw (e, does, serve_turn) tt)
-done q x return = by-test (spoilt q.slot) (λ e. rw (e, does, return_turn) tt) (λ e. rw (e, does, return_turn) tt)
-done q x commit = by-test (writer q.cells q.writes x.slot) (λ e. rw (e, does, commit_turn) tt) (λ e. rw (e, does, commit_turn) tt)
+done q x return = by_test (spoilt q.slot) (λ e. rw (e, does, return_turn) tt) (λ e. rw (e, does, return_turn) tt)
+done q x commit = by_test (writer q.cells q.writes x.slot) (λ e. rw (e, does, commit_turn) tt) (λ e. rw (e, does, commit_turn) tt)
 done q x prepare = voted q (vote_of q x)
-done q x decide = by-test (refused_by q.nodes q.flight x.slot) (λ e. rw (e, does, decide_turn) tt) (λ e. rw (e, does, decide_turn) tt)
+done q x decide = by_test (refused_by q.nodes q.flight x.slot) (λ e. rw (e, does, decide_turn) tt) (λ e. rw (e, does, decide_turn) tt)
 done q x give_up = tt
-done q x learn = by-test (in_stage q.slot committed) (λ e. rw (e, does, learn_turn) tt) (λ e. rw (e, does, learn_turn) tt)
+done q x learn = by_test (in_stage q.slot committed) (λ e. rw (e, does, learn_turn) tt) (λ e. rw (e, does, learn_turn) tt)
 done q x apply = tt
 done q x advance = tt
 done q x abandon = tt
@@ -109,5 +109,5 @@ answered q x = go (refusal (field_tests q.nodes q.cells x (needs q x k))) (refus
     k = named x.kind
 
     go : (r : Option ℕ) → Accepted r → Answered (judge r q (cond (leb 128 x.kind) (cuts q x k) (does q x k))).answer
-    go none h = by-test (leb 128 x.kind) (λ e. rw (e, cuts) tt) (λ e. rw e (done q x k))
+    go none h = by_test (leb 128 x.kind) (λ e. rw (e, cuts) tt) (λ e. rw e (done q x k))
     go (some c) h = h

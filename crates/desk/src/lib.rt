@@ -1,5 +1,7 @@
 // The step of a desk: of one slot and one node's counters, which go by value, over the tables, which are changed where they lie. Refusals 16 to 18
 // come first, by the table of kinds; the rest, and what is done, by the kind's own function.
+#![tactic(auto)]
+
 mod by_kind;
 
 ghost use Rattle.std.specs.Prelude.{◌≡◌, not, ◌||◌, ltb};
@@ -14,7 +16,7 @@ use group::{Slot, Turn};
 use kinds::Step;
 
 // Refusals 16 to 18, or none of them.
-#[derive(Drop)]
+#[derive(Clone, Copy)]
 enum Fault {
     Code(u32),
     Nothing,

@@ -9,7 +9,7 @@ use counters::Counters;
 use group::{Group, Slot, Snapshot, Stage};
 
 // The small part and the flight table of a fresh run. Here, since beside the function `fresh` no type can have this name.
-#[derive(Drop)]
+#[derive(Clone, Copy)]
 pub struct Fresh {
     pub group: Group,
     pub flight: [u64; 256],

@@ -1,4 +1,6 @@
 // A fresh run: the state before the first step.
+#![tactic(auto)]
+
 mod fill;
 
 ghost use Rattle.std.specs.Prelude.{◌≡◌};

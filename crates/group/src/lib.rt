@@ -1,5 +1,7 @@
 // The state of a group: its small typed part, which goes by value, and five long tables, which the caller lends and which are changed
 // where they lie. The functions here are for callers that know their places to be in range: whoever takes a state or a step from outside has tested that.
+#![tactic(auto)]
+
 ghost use Rattle.std.specs.Prelude.{◌≡◌, ◌/◌, ◌%◌, ◌^◌, ◌≤◌, ◌<◌, eqb};
 ghost use Rattle.tables.specs.Table.{at, put};
 ghost use Rattle.tables.specs.Pair.{pair};
@@ -38,14 +40,14 @@ pub const TO_APPLY: u32 = 4;
 pub const FINISHED: u32 = 5;
 
 // A transaction's snapshot is fixed by its first read.
-#[derive(Drop)]
+#[derive(Clone, Copy)]
 pub enum Snapshot {
     Unfixed,
     Fixed(u32),
 }
 
 // A read that is asked of a node: its s is at least what is carried, or exactly that.
-#[derive(Drop)]
+#[derive(Clone, Copy)]
 pub struct Ask {
     pub node: u8,
     pub cell: u8,
@@ -54,7 +56,7 @@ pub struct Ask {
 }
 
 // The version noted for a read, at its s; stale if the chain has a newer one.
-#[derive(Drop)]
+#[derive(Clone, Copy)]
 pub struct Note {
     pub node: u8,
     pub cell: u8,
@@ -64,7 +66,7 @@ pub struct Note {
 }
 
 // A stage carries what only that stage has.
-#[derive(Drop)]
+#[derive(Clone, Copy)]
 pub enum Stage {
     Unused,
     Open,
@@ -75,7 +77,7 @@ pub enum Stage {
     Aborted,
 }
 
-#[derive(Drop)]
+#[derive(Clone, Copy)]
 pub struct Slot {
     pub stage: Stage,
     pub origin: u8,
@@ -83,7 +85,7 @@ pub struct Slot {
     pub snapshot: Snapshot,
 }
 
-#[derive(Drop)]
+#[derive(Clone, Copy)]
 pub struct Group {
     pub nodes: u8,
     pub cells: u8,
@@ -93,7 +95,7 @@ pub struct Group {
 }
 
 // What a step answers.
-#[derive(Drop)]
+#[derive(Clone, Copy)]
 pub enum Answer {
     Done(u32),
     Value { s: u32, value: u32 },
@@ -107,7 +109,7 @@ pub enum Answer {
 }
 
 // What a step makes of the one slot and the one node's counters that it moves.
-#[derive(Drop)]
+#[derive(Clone, Copy)]
 pub struct Turn {
     pub answer: Answer,
     pub slot: Slot,

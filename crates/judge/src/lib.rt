@@ -1,5 +1,7 @@
 // Is a state whole? Here what the paper says of chains and of unfinished entries, and all its sentences together. Any state may be handed in:
 // the counts are tested first, and once they are in range no test leaves a table.
+#![tactic(auto)]
+
 mod chains;
 mod pending;
 

@@ -1,9 +1,11 @@
 // A step, and the kinds of step: which of the four fields slot, node, cell and value each one uses. The step function, the reader and the
 // writer all go by this one table.
+#![tactic(auto)]
+
 ghost use Rattle.std.specs.Prelude.{◌≡◌, leb};
 ghost use Rattle.kinds.specs.Kinds.{whole_of, is_known, fields_of, uses_of};
 
-#[derive(Drop)]
+#[derive(Clone, Copy)]
 pub struct Step {
     pub kind: u8,
     pub slot: u8,
@@ -12,7 +14,7 @@ pub struct Step {
     pub value: u32,
 }
 
-#[derive(Drop)]
+#[derive(Clone, Copy)]
 pub struct Fields {
     pub slot: bool,
     pub node: bool,

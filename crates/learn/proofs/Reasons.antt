@@ -7,7 +7,7 @@ use Prim.Native.Nat.{ℕ, ◌≤◌, ◌<◌}
 use native.Mathlib.Omega.{arith}
 use lib.ListN.{length}
 use Rattle.tables.specs.Pair.{pair}
-use Rattle.tables.proofs.Choice.{by-test}
+use Rattle.tables.proofs.Choice.{by_test}
 use Rattle.counters.specs.declared.Counters.{Counters}
 use Rattle.group.specs.declared.Slot.{Slot}
 use Rattle.group.specs.State.{unfinished, committed, final_of, in_stage}
@@ -18,7 +18,7 @@ use Rattle.learn.specs.Learn.{learn_turn, learn_flight}
 -- The counter is saved before a decision is entered: it is at least the final number that the learn answers.
 pub learn_saves : (slot : Slot) (c : Counters) → (said (learn_turn slot c).answer).number ≤ (learn_turn slot c).counters.counter
 unfolding learn_turn
-learn_saves slot c = by-test (in_stage slot committed) (λ e. rw (e, learn_turn) (omega arith)) (λ e. rw (e, learn_turn) (omega arith))
+learn_saves slot c = by_test (in_stage slot committed) (λ e. rw (e, learn_turn) (omega arith)) (λ e. rw (e, learn_turn) (omega arith))
 
 -- and where the transaction is committed, that is its final number
 pub learn_answers : (slot : Slot) (c : Counters) → in_stage slot committed ≡ true → (said (learn_turn slot c).answer).number ≡ final_of slot.stage

@@ -1,6 +1,8 @@
 // Rule D: a node learns what was decided. It moves one node's counters and one slot, which go by value, and the flight table, which the caller
 // lends and which is changed where it lies. The refusals come first; then the cut step, which changes no table; then the whole step. The
 // functions are for callers that know their places to be in range.
+#![tactic(auto)]
+
 ghost use Rattle.std.specs.Prelude.{◌≡◌, ◌&&◌, ◌||◌, ◌<◌, leb, eqb};
 ghost use Rattle.tables.specs.Tests.{refusal};
 ghost use Rattle.group.specs.State.{sent, voted_yes, tag_at, committed, aborted, final_of};

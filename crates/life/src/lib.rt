@@ -1,6 +1,8 @@
 // What a transaction does by itself, and by no rule: begin, write, give up and abandon. None of them moves a counter, so the cut step of each
 // changes nothing. A step is refused first, in the order of the codes; then it is cut, or whole. For callers that know the slot and the cell
 // to be in range.
+#![tactic(auto)]
+
 ghost use Rattle.std.specs.Prelude.{◌≡◌, ◌&&◌, ◌<◌, leb};
 ghost use Rattle.tables.specs.Tests.{refusal};
 ghost use Rattle.group.specs.State.{opened as is_opened, served};

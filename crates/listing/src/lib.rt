@@ -1,5 +1,7 @@
 // The lines of a run: each step is taken where it stands in the file, done, and its answer written as a line. A first pass may only count
 // the bytes, so that nothing is written where the whole would not fit.
+#![tactic(auto)]
+
 ghost use Rattle.std.specs.Prelude.{◌≡◌, true, cond, ◌+◌, ◌≤◌, ◌<◌, ltb, length};
 ghost use Rattle.chain.specs.Chain.{chains};
 ghost use Rattle.group.specs.State.{state_of};
@@ -11,7 +13,7 @@ use group::{Answer, Group};
 use runfile::{Head, Taken};
 
 // The paper's code, number and value of an answer.
-#[derive(Drop)]
+#[derive(Clone, Copy)]
 struct Reply {
     code: u32,
     number: u32,

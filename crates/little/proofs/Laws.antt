@@ -12,7 +12,7 @@ use lib.ListN.{length, take, drop, get_or, set, length-take, length-drop, drop_o
 use lib.Seq.{take_all, take_at, drop_at, take-set-le, drop-set-lt, drop-cons, get_or-take, get_or-drop, length-take-le, sets, sets-eq, length-sets}
 use borrow.Author.Tests.{le-leb, lt-leb, leb-true, leb-false}
 use Rattle.tables.specs.Table.{at}
-use Rattle.tables.proofs.Choice.{by-test, and_true}
+use Rattle.tables.proofs.Choice.{by_test, and_true}
 use Rattle.little.specs.Little.{little, digits, fits, number_at, place_after, stored}
 
 -- ---- a number and its bytes
@@ -84,7 +84,7 @@ module _ (len i k : ℕ) where
   -- as code tests it, with no sum that could wrap
   pub fits_last : k ≤ 4 → k ≤ len → leb i (len - k) ≡ fits len i k
   fits_last h l =
-      by-test (leb i (len - k)) (λ e. e ∙ sym (fits_in h (omega (arith, leb-true)))) (λ e. e ∙ sym (fits_past h (omega (arith, leb-false))))
+      by_test (leb i (len - k)) (λ e. e ∙ sym (fits_in h (omega (arith, leb-true)))) (λ e. e ∙ sym (fits_past h (omega (arith, leb-false))))
 
   pub after_in : fits len i k ≡ true → place_after len i k ≡ i + k
   unfolding place_after
@@ -164,16 +164,16 @@ module _ (out : List ℕ) (i k x : ℕ) where
   stored_out e = rw e
 
   pub stored_size : length (stored out i k x) ≡ length out
-  stored_size = by-test (fits (length out) i k) (λ e. ap length (stored_in e) ∙ length-sets out i (digits k x)) (λ e. ap length (stored_out e))
+  stored_size = by_test (fits (length out) i k) (λ e. ap length (stored_in e) ∙ length-sets out i (digits k x)) (λ e. ap length (stored_out e))
 
   -- the bytes before it and past it stay
   pub stored_before : (n : ℕ) → n ≤ i → take n (stored out i k x) ≡ take n out
   stored_before n h =
-      by-test (fits (length out) i k) (λ e. ap (take n) (stored_in e) ∙ take_sets (digits k x) out i n h) (λ e. ap (take n) (stored_out e))
+      by_test (fits (length out) i k) (λ e. ap (take n) (stored_in e) ∙ take_sets (digits k x) out i n h) (λ e. ap (take n) (stored_out e))
 
   pub stored_past : (n : ℕ) → i + k ≤ n → drop n (stored out i k x) ≡ drop n out
   stored_past n h =
-      by-test (fits (length out) i k) (λ e. ap (drop n) (stored_in e) ∙ drop_sets (digits k x) out i n (omega (arith, digits_size k x)))
+      by_test (fits (length out) i k) (λ e. ap (drop n) (stored_in e) ∙ drop_sets (digits k x) out i n (omega (arith, digits_size k x)))
       (λ e. ap (drop n) (stored_out e))
 
   pub stored_parts : fits (length out) i k ≡ true → stored out i k x ≡ take i out ++ (digits k x ++ drop (i + k) out)

@@ -55,7 +55,7 @@ module _ {M : Type 1} {𝓤 : Ura M} {𝓛 : Logic 𝓤} {K : Type 0} {Γ : List
     pub behind :
         K → (n : ℕ) {τ σ : Ty} {k b o d : ℕ} → nth 𝓛 n Γ ≡ ‵ (fat q (spot_of 𝓤 H E i).0 (spot_of 𝓤 H E i).1 (spot_of 𝓤 H E i).2 (vptr b o))
         → field_of τ k ≡ option.some (σ, d) → Finds K 𝓛 Γ E (place i (deref τ ∷ field k ∷ [])) (σ, b, o + d)
-    behind t n e at-k = from t (hop t (look t n e) (fld t at-k (stop t)))
+    behind t n e at_k = from t (hop t (look t n e) (fld t at_k (stop t)))
 
   -- entry n of the context is the first local, and entry m of what is then left its end: it is freed, whatever it holds
   pub freed :

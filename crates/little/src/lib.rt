@@ -1,5 +1,7 @@
 // Little-endian numbers in bytes that the caller lends: the scanner that reads them, and the store that writes them. The work is in
 // functions over plain slices and numbers. Every function takes any input.
+#![tactic(auto)]
+
 ghost use Rattle.std.specs.Prelude.{◌≡◌, ◌<◌, length};
 ghost use Rattle.little.specs.Little.{result_of, fits as fits_of, number_at, place_after, stored, Tail};
 
@@ -10,7 +12,7 @@ pub struct Scanner<'a> {
     pub at: usize,
 }
 
-#[derive(Drop)]
+#[derive(Clone, Copy)]
 pub enum Number {
     Is(u32),
     Missing,

@@ -6,7 +6,7 @@ use Prim.Native.Nat.{ℕ, ◌+◌, ◌*◌, ◌/◌, ◌%◌, ◌≤◌, ◌<◌
 use native.Mathlib.Omega.{arith}
 use lib.Dec.{ltb, leb}
 use borrow.Author.Tests.{ltb-true, ltb-false, leb-true, leb-false, lt-ltb, le-ltb}
-use Rattle.tables.proofs.Choice.{by-test}
+use Rattle.tables.proofs.Choice.{by_test}
 use Rattle.number.specs.Proposal.{top, up_to_top, next, proposal, IsProposal, number, nothing}
 
 -- the number that `next` gives, before the limit is looked at
@@ -17,19 +17,19 @@ record Next (n c k : ℕ) : Type 0 where
 
 next_is : (n c : ℕ) → n < 8 → Next n c (next n c)
 unfolding next
-next_is n c h = by-test (ltb c (c / 8 * 8 + n)) (λ e. rw (e, next) (omega (arith, ltb-true))) (λ e. rw (e, next) (omega (arith, ltb-false)))
+next_is n c h = by_test (ltb c (c / 8 * 8 + n)) (λ e. rw (e, next) (omega (arith, ltb-true))) (λ e. rw (e, next) (omega (arith, ltb-false)))
 
 -- at most the largest number
 limited : (n c k : ℕ) → Next n c k → IsProposal n c (up_to_top k)
 unfolding up_to_top
 limited n c k x =
-    by-test (leb k top) (λ e. rw e (number x.above x.own (leb-true _ _ e) x.least))
+    by_test (leb k top) (λ e. rw e (number x.above x.own (leb-true _ _ e) x.least))
     (λ e. rw e (nothing (λ j a o l. omega (arith, leb-false, x.least j a o))))
 
 pub proposal_is : (n c : ℕ) → IsProposal n c (proposal n c)
 unfolding proposal
 proposal_is n c =
-    by-test (ltb n 8) (λ e. rw e (limited n c (next n c) (next_is n c (ltb-true _ _ e)))) (λ e. rw e (nothing (λ j a o l. omega (arith, ltb-false))))
+    by_test (ltb n 8) (λ e. rw e (limited n c (next n c) (next_is n c (ltb-true _ _ e)))) (λ e. rw e (nothing (λ j a o l. omega (arith, ltb-false))))
 
 -- whatever follows the paper's words is what `proposal` gives
 pub proposal_only : (n c : ℕ) (r : Option ℕ) → IsProposal n c r → r ≡ proposal n c

@@ -1,9 +1,11 @@
 // The proposal of rule C. Every node proposes numbers that leave its own when divided by 8, so no number is ever proposed by two
 // nodes; and each above its counter, so none is proposed twice by one.
+#![tactic(auto)]
+
 ghost use Rattle.std.specs.Prelude.{◌≡◌, ◌+◌, ◌*◌, ◌/◌};
 ghost use Rattle.number.specs.Proposal.{proposal, result_of, up_to_top};
 
-#[derive(Drop)]
+#[derive(Clone, Copy)]
 pub enum Proposal {
     Number(u32),
     Nothing,

@@ -7,7 +7,7 @@ use mathlib.Core.List.{List}
 use Prim.Native.Nat.{ℕ, ◌≤◌, ◌<◌}
 use native.Mathlib.Omega.{arith}
 use borrow.Author.Tests.{leb-false, ltb-false}
-use Rattle.tables.proofs.Choice.{by-test}
+use Rattle.tables.proofs.Choice.{by_test}
 use Rattle.tables.proofs.Loop.{any_at}
 use Rattle.chain.specs.Chain.{Chains}
 use Rattle.counters.specs.declared.Counters.{Counters}
@@ -39,7 +39,7 @@ module _ (slot : Slot) (holder : Counters) (flight writes : List ℕ) (h : Chain
   -- waiting or done, it answers its s
   answers_s : (said served.answer).number ≡ read_at ask holder
   unfolding serve_turn
-  answers_s = by-test waits (λ b. rw (b, serve_turn)) (λ b. rw (b, serve_turn))
+  answers_s = by_test waits (λ b. rw (b, serve_turn)) (λ b. rw (b, serve_turn))
 
   -- A read waits for every number at or below its s. Where a serve is done at s, each unfinished entry here that writes the cell is above
   -- s: nothing at or below s is still to come.
@@ -47,7 +47,7 @@ module _ (slot : Slot) (holder : Counters) (flight writes : List ℕ) (h : Chain
       (s : ℕ) → served.answer ≡ Done s → (u : ℕ) → u < 32 → unfinished flight u ask.node ≡ true → has writes u ask.cell ≡ true
       → s < number_at flight u ask.node
   unfolding serve_turn blocked blocks
-  nothing_to_come s e u hu p w = by-test waits (λ b. absurd (done_is_no_wait (rw (b, serve_turn) at e))) (λ b. above b)
+  nothing_to_come s e u hu p w = by_test waits (λ b. absurd (done_is_no_wait (rw (b, serve_turn) at e))) (λ b. above b)
     where
       done_is_no_wait : Wait (read_at ask holder) ≡ Done s → ⊥
       done_is_no_wait d = let z : ◌≡◌ {A = ℕ} 0 1 = cc in omega arith
@@ -61,7 +61,7 @@ module _ (slot : Slot) (holder : Counters) (flight writes : List ℕ) (h : Chain
   -- The counter is saved before a read is handed out: waiting or done, counter and seen number are at least the s that it answers.
   pub serve_saves : ((said served.answer).number ≤ served.counters.counter) × ((said served.answer).number ≤ served.counters.seen)
   unfolding serve_turn
-  serve_saves = by-test waits (λ b. rw (b, serve_turn) (omega arith)) (λ b. rw (b, serve_turn) (omega arith))
+  serve_saves = by_test waits (λ b. rw (b, serve_turn) (omega arith)) (λ b. rw (b, serve_turn) (omega arith))
 
   -- The snapshot is what the ask carries where that is settled, and else no less than that nor than the holder's commit number, which alone
   -- may lie below what is carried.
@@ -78,4 +78,4 @@ module _ (slot : Slot) (origin : Counters) where
   pub return_saves :
       ((note_of slot.stage).s ≤ (return_turn slot origin).counters.counter) × ((note_of slot.stage).s ≤ (return_turn slot origin).counters.seen)
   unfolding return_turn
-  return_saves = by-test (spoilt slot) (λ b. rw (b, return_turn) (omega arith)) (λ b. rw (b, return_turn) (omega arith))
+  return_saves = by_test (spoilt slot) (λ b. rw (b, return_turn) (omega arith)) (λ b. rw (b, return_turn) (omega arith))

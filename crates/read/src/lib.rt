@@ -1,6 +1,8 @@
 // Reading: rule A, serve, and rule B, return. Each takes the transaction's slot and the counters of the one node that it may move, and
 // gives both anew with its answer; the tables are looked at, and the reads changed, where they lie. For callers that know their places to
 // be in range. A step is refused first; then it is cut, or whole.
+#![tactic(auto)]
+
 ghost use Rattle.std.specs.Prelude.{◌≡◌, ◌&&◌, ◌<◌};
 ghost use Rattle.tables.specs.Tests.{refusal};
 ghost use Rattle.chain.specs.Chain.{result_of, chains};

@@ -10,7 +10,7 @@ use lib.Seq.{get_or-append-add}
 use borrow.Author.Tests.{ltb-true, ltb-false}
 use Rattle.tables.specs.Table.{at}
 use Rattle.tables.specs.Pair.{word}
-use Rattle.tables.proofs.Choice.{by-test, and_true}
+use Rattle.tables.proofs.Choice.{by_test, and_true}
 use Rattle.tables.proofs.Table.{at_all, at_past}
 use Rattle.runfile.specs.File.{Cell, File}
 use Rattle.runfile.specs.Head.{padded, head_of}
@@ -27,7 +27,7 @@ padded_size k xs h =
 
 at_zeros : (k i : ℕ) → at {A = ℕ} (replicate k 0) i 0 ≡ 0
 at_zeros k i =
-    by-test (ltb i k) (λ e. at_all k i 0 0 (ltb-true i k e)) (λ e. at_past (replicate k 0) i 0 (rw (length-replicate {A = ℕ} k 0) (ltb-false i k e)))
+    by_test (ltb i k) (λ e. at_all k i 0 0 (ltb-true i k e)) (λ e. at_past (replicate k 0) i 0 (rw (length-replicate {A = ℕ} k 0) (ltb-false i k e)))
 
 at_beyond : (k : ℕ) (xs : List ℕ) (i : ℕ) → length xs ≤ i → at (padded k xs) i 0 ≡ 0
 unfolding padded at
@@ -42,7 +42,7 @@ at_within k xs i h = get_or-append xs (replicate (k - length xs) 0) 0 i h
 -- what holds of 0 and of each item holds at every place
 at_any : (P : ℕ → Type 0) (k : ℕ) (xs : List ℕ) → P 0 → ((i : ℕ) → i < length xs → P (at xs i 0)) → (i : ℕ) → P (at (padded k xs) i 0)
 at_any P k xs z p i =
-    by-test (ltb i (length xs)) (λ e. rw (at_within k xs i (ltb-true i (length xs) e)) (p i (ltb-true i (length xs) e)))
+    by_test (ltb i (length xs)) (λ e. rw (at_within k xs i (ltb-true i (length xs) e)) (p i (ltb-true i (length xs) e)))
     (λ e. rw (at_beyond k xs i (ltb-false i (length xs) e)) z)
 
 no_cell : Cell

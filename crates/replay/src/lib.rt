@@ -1,4 +1,6 @@
 // A run file in, the lines of its run out: what the run program prints, into bytes that the caller lends.
+#![tactic(auto)]
+
 mod front;
 
 ghost use Rattle.std.specs.Prelude.{◌≡◌, ◌++◌, ◌+◌, ◌≤◌, leb, length};

@@ -1,4 +1,6 @@
 // Reads a run file on standard input and prints its run, or the code of its fault.
+#![tactic(auto)]
+
 ghost use Rattle.std.specs.Prelude.{◌≡◌, length};
 
 // One byte more than the longest file has, so that a longer input is refused for its bytes left over and not cut.

@@ -11,7 +11,7 @@ use lib.ListN.{length, take, drop, get_or, length-append, length-drop, length-ta
 use lib.Seq.{take_at, drop-cons, drop-append-add, drop_at, length-take-le, get_or-drop, get_or-take}
 use borrow.Author.Tests.{le-leb, leb-true, leb-false, not-false}
 use Rattle.tables.specs.Table.{at}
-use Rattle.tables.proofs.Choice.{by-test, or_false}
+use Rattle.tables.proofs.Choice.{by_test, or_false}
 use Rattle.little.proofs.Laws.{Bytes}
 use Rattle.runfile.specs.File.{Read, got, fault, and_then, read_bytes, tested, read_items, joined, some_bad}
 
@@ -94,8 +94,8 @@ module _ {A : Type 0} (I : Item A) where
 
   pub went : (b : List ℕ) → Went b (read_item b)
   went b =
-      by-test (leb I.width (length b))
-      (λ e. by-test (I.ok (I.from (take I.width b)))
+      by_test (leb I.width (length b))
+      (λ e. by_test (I.ok (I.from (take I.width b)))
       (λ q. rw (item_good b e q) (good (leb-true _ _ e) q))
       (λ q. rw (item_bad b e q) (bad (leb-true _ _ e) q)))
       (λ e. rw (item_cut b e) (cut (leb-false _ _ e)))

@@ -10,7 +10,7 @@ use lib.ListN.{length, take, drop, length-append, length-drop, take-append-drop}
 use lib.Seq.{length-take-le, take-append-le, drop-append-le}
 use borrow.Author.Tests.{le-leb, leb-true}
 use Rattle.tables.specs.Table.{at}
-use Rattle.tables.proofs.Choice.{by-test, and_true}
+use Rattle.tables.proofs.Choice.{by_test, and_true}
 use Rattle.little.specs.Little.{little}
 use Rattle.runfile.specs.File.{File, Read, got, fault, and_then, read_bytes, tested, read_count, read_counter, read_cell, read_step, read_items, at_end, read_file, mask_sound, fields_sound, cell_from, step_from}
 use Rattle.runfile.proofs.Items.{and_then_lem}
@@ -42,7 +42,7 @@ module _ (q : List ℕ) where
       → Same q n (and_then (read_bytes k p) (λ i rest. tested (ok i) code (from i) rest)) (and_then (read_bytes k (p ++ q)) (λ i rest. tested (ok i) code (from i) rest))
   item_same k n ok code from p h =
       then n n (read_bytes k p) (read_bytes k (p ++ q)) (λ i rest. tested (ok i) code (from i) rest) (bytes_same k n p h) (λ i rest e l.
-      by-test (ok i) (λ t. same_got (from i) rest (rw t) (rw t) l) (λ t. same_fault code (rw t) (rw t)))
+      by_test (ok i) (λ t. same_got (from i) rest (rw t) (rw t) l) (λ t. same_fault code (rw t) (rw t)))
 
   -- that many items of w bytes each
   items_same :

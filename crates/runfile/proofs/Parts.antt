@@ -13,7 +13,7 @@ use lib.Seq.{take_all, take-add, drop_at, length-take-le, drop-drop, get_or-take
 use borrow.Author.Tests.{le-leb, lt-leb, leb-true, leb-false}
 use Rattle.kinds.specs.declared.Step.{Step}
 use Rattle.tables.specs.Table.{at}
-use Rattle.tables.proofs.Choice.{by-test}
+use Rattle.tables.proofs.Choice.{by_test}
 use Rattle.little.specs.Little.{little, digits, fits, number_at}
 use Rattle.little.proofs.Laws.{Bytes, digits_size, fits_in, fits_true, number_in, number_out}
 use Rattle.runfile.specs.File.{File, got, step_bytes, step_from, cell_bytes, joined, bytes_of, read_file}
@@ -26,12 +26,12 @@ use Rattle.runfile.proofs.FileItems.{counter_item, cell_item, step_item, StepFit
 
 pub number_there : (s : List ℕ) (i k x : ℕ) → number_at s i k ≡ some x → (x ≡ little (take k (drop i s))) × (i + k ≤ length s)
 number_there s i k x e =
-    by-test (fits (length s) i k) (λ t. (cc (number_in s i k t), (fits_true (length s) i k t).1))
+    by_test (fits (length s) i k) (λ t. (cc (number_in s i k t), (fits_true (length s) i k t).1))
     (λ t. absurd (some-ne-none x (sym e ∙ number_out s i k t)))
 
 pub number_not : (s : List ℕ) (i k : ℕ) → k ≤ 4 → number_at s i k ≡ none → length s < i + k
 number_not s i k h e =
-    by-test (leb (i + k) (length s))
+    by_test (leb (i + k) (length s))
     (λ t. absurd (some-ne-none _ (sym (number_in s i k (fits_in (length s) i k h (leb-true _ _ t))) ∙ e)))
     (λ t. leb-false _ _ t)
 

@@ -14,7 +14,7 @@ use lib.ListN.{length, take, drop, get_or, length-drop}
 use lib.Seq.{drop-drop, get_or-take, get_or-drop}
 use borrow.Author.Tests.{le-leb, lt-leb, leb-true, leb-false, lt-ltb, ltb-true, ltb-false, eq-eqb, ne_eqb}
 use Rattle.tables.specs.Table.{at}
-use Rattle.tables.proofs.Choice.{by-test}
+use Rattle.tables.proofs.Choice.{by_test}
 use Rattle.little.specs.Little.{little, number_at}
 use Rattle.kinds.specs.declared.Step.{Step}
 use Rattle.runfile.specs.File.{
@@ -52,7 +52,7 @@ mask_zero nodes mask e = rw e
 
 pub mask_in : (nodes mask : ℕ) → (mask ≡ 0 → ⊥) → eqb (mask / 2 ^ nodes) 0 ≡ mask_sound nodes mask
 mask_in nodes mask h =
-    by-test (ltb mask (2 ^ nodes))
+    by_test (ltb mask (2 ^ nodes))
     (λ t. rw (lt-ltb 0 mask (omega arith), t) (eq-eqb _ _ (div-eq_of_lt (ltb-true mask (2 ^ nodes) t))))
     (λ t. let l = lt-div-mul-add {a = mask} {b = 2 ^ nodes} (pow_pos nodes) in
     rw (lt-ltb 0 mask (omega arith), t) (ne_eqb (mask / 2 ^ nodes) 0 (λ e. let m : mask < 0 * 2 ^ nodes + 2 ^ nodes = rw e at l in omega (arith, ltb-false mask (2 ^ nodes) t))))
@@ -127,7 +127,7 @@ module _ (s : List ℕ) (i : ℕ) where
 module _ (part : List ℕ) (i : ℕ) where
   step_taken : (x : Step) → step_at part i ≡ some x → (8 * i + 8 ≤ length part) × (x ≡ step_in part i)
   step_taken x e =
-      by-test (leb (8 * i + 8) (length part))
+      by_test (leb (8 * i + 8) (length part))
       (λ t. let l = leb-true (8 * i + 8) (length part) t in (l, cc (step_there part i l)))
       (λ t. absurd (some-ne-none x (sym e ∙ sym (step_not part i (omega (arith, leb-false (8 * i + 8) (length part) t))))))
 
@@ -148,7 +148,7 @@ module _ (part : List ℕ) (i : ℕ) where
   pub step_cut : step_at part i ≡ none → read_step (drop (8 * i) part) ≡ fault 32
   unfolding read_step
   step_cut e =
-      by-test (leb (8 * i + 8) (length part))
+      by_test (leb (8 * i + 8) (length part))
       (λ t. absurd (some-ne-none _ (sym (step_there part i (leb-true (8 * i + 8) (length part) t)) ∙ e)))
       (λ t. rw (bytes_cut part (8 * i) 8 (lit< tt) (leb-false (8 * i + 8) (length part) t)))
 

@@ -12,7 +12,7 @@ use lib.Seq.{get_or_at, get_or-append-add}
 use borrow.Author.Tests.{ltb-true, ltb-false}
 use Rattle.tables.specs.Table.{at, put}
 use Rattle.tables.proofs.Table.{put_other, same_table, at_all, at_past}
-use Rattle.tables.proofs.Choice.{by-test}
+use Rattle.tables.proofs.Choice.{by_test}
 use Rattle.runfile.specs.Head.{firsts, padded}
 
 -- ---- a row of items by place
@@ -60,7 +60,7 @@ Blank i l = (j : ℕ) → i ≤ j → at l j 0 ≡ 0
 
 pub blank_all : (k : ℕ) → Blank 0 (replicate k 0)
 blank_all k j h =
-    by-test (ltb j k) (λ t. at_all k j 0 0 (ltb-true j k t)) (λ t. at_past (replicate k 0) j 0 (rw (length-replicate {A = ℕ} k 0) (ltb-false j k t)))
+    by_test (ltb j k) (λ t. at_all k j 0 0 (ltb-true j k t)) (λ t. at_past (replicate k 0) j 0 (rw (length-replicate {A = ℕ} k 0) (ltb-false j k t)))
 
 pub blank_put : (i : ℕ) (l : List ℕ) (x : ℕ) → Blank i l → Blank (i + 1) (put l i x)
 blank_put i l x b j h = put_other l i x j 0 (λ e. omega arith) ∙ b j (omega arith)
@@ -81,7 +81,7 @@ padded_blank n k l e h b =
     let s = firsts_size n g in
     let m = k - length (firsts n g) in
     same_table 0 (firsts n g ++ replicate m 0) l (length-append (firsts n g) (replicate m 0) ∙ omega (arith, length-replicate {A = ℕ} m 0)) (λ i h'.
-    by-test (ltb i n)
+    by_test (ltb i n)
     (λ t. let q : i < length (firsts n g) = omega (arith, ltb-true i n t) in
     get_or-append (firsts n g) (replicate m 0) 0 i q ∙ at_firsts n g i 0 (ltb-true i n t))
     (λ t. past_zeros (firsts n g) m i (omega (arith, ltb-false i n t)) ∙ sym (b i (ltb-false i n t))))

@@ -27,14 +27,14 @@ pub record CountersSo (file : List ℕ) (n i : ℕ) (l : List ℕ) : Type 0 wher
   pub blank : Blank i l
   pub left : Left read_counter 4 (drop 1 file) n i (firsts i (λ j. at l j 0))
 
-module _ (file : List ℕ) (n : ℕ) (n-few : n ≤ 8) where
+module _ (file : List ℕ) (n : ℕ) (n_few : n ≤ 8) where
   pub counters_start : CountersSo file n 0 (replicate 8 0)
   unfolding firsts
   counters_start = record { few = omega arith; size = refl; blank = blank_all 8; left = left_none read_counter 4 (drop 1 file) n }
 
   module _ (i : ℕ) (l : List ℕ) (so : CountersSo file n i l) where
     counters_padded : padded 8 (firsts n (λ j. at l j 0)) ≡ l
-    counters_padded = padded_blank n 8 l so.size n-few (blank_more i n l so.few so.blank)
+    counters_padded = padded_blank n 8 l so.size n_few (blank_more i n l so.few so.blank)
 
     pub counters_turn : (x : ℕ) → i < n → number_at file (1 + 4 * i) 4 ≡ some x → CountersSo file n (i + 1) (put l i x)
     counters_turn x h e =
@@ -76,7 +76,7 @@ CellsTold file start nodes n code masks values =
     Told (read_items (read_cell nodes) n (drop start file)) code (firsts n (cell_in masks values)) (drop (5 * n) (drop start file))
     × (padded 32 (firsts n (λ j. at masks j 0)) ≡ masks) × (padded 32 (firsts n (λ j. at values j 0)) ≡ values)
 
-module _ (file : List ℕ) (start nodes n : ℕ) (n-few : n ≤ 32) where
+module _ (file : List ℕ) (start nodes n : ℕ) (n_few : n ≤ 32) where
   pub cells_start : CellsSo file start nodes n 0 (replicate 32 0) (replicate 32 0)
   unfolding firsts
   cells_start = record {
@@ -90,10 +90,10 @@ module _ (file : List ℕ) (start nodes n : ℕ) (n-few : n ≤ 32) where
 
   module _ (i : ℕ) (masks values : List ℕ) (so : CellsSo file start nodes n i masks values) where
     masks_padded : padded 32 (firsts n (λ j. at masks j 0)) ≡ masks
-    masks_padded = padded_blank n 32 masks so.masks_size n-few (blank_more i n masks so.few so.masks_blank)
+    masks_padded = padded_blank n 32 masks so.masks_size n_few (blank_more i n masks so.few so.masks_blank)
 
     values_padded : padded 32 (firsts n (λ j. at values j 0)) ≡ values
-    values_padded = padded_blank n 32 values so.values_size n-few (blank_more i n values so.few so.values_blank)
+    values_padded = padded_blank n 32 values so.values_size n_few (blank_more i n values so.few so.values_blank)
 
     pub cells_turn :
         (m v : ℕ) → i < n → number_at file (start + 5 * i + 1) 4 ≡ some v → m ≡ get_or file (start + 5 * i) 0 → mask_sound nodes m ≡ true

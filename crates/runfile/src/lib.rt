@@ -1,5 +1,7 @@
 // The run file, and its reader, which says of any bytes what run they are the file of, or what fault they have. Each function that reads takes
 // any input.
+#![tactic(auto)]
+
 mod read;
 
 ghost use Rattle.std.specs.Prelude.{◌≡◌};
@@ -11,7 +13,7 @@ pub use crate::read::{fields_sound, mask_sound};
 use kinds::Step;
 
 // A run without its steps: entries past the counts are 0.
-#[derive(Drop)]
+#[derive(Clone, Copy)]
 pub struct Head {
     pub nodes: u8,
     pub cells: u8,
@@ -21,14 +23,14 @@ pub struct Head {
     pub values: [u32; 32],
 }
 
-#[derive(Drop)]
+#[derive(Clone, Copy)]
 pub enum Verdict {
     Sound,
     Faulty(u8),
 }
 
 // An enum holds no array, so the two stand side by side: the head of a faulty file is all zeros.
-#[derive(Drop)]
+#[derive(Clone, Copy)]
 pub struct Opened {
     pub verdict: Verdict,
     pub head: Head,
@@ -68,7 +70,7 @@ pub fn open(file: &[u8]) -> Opened
 }
 
 // ---- the steps section
-#[derive(Drop)]
+#[derive(Clone, Copy)]
 pub enum Taken {
     Step(Step),
     Nothing,

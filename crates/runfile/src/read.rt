@@ -9,26 +9,26 @@ use crate::{Head, Taken};
 use kinds::Step;
 use little::Number;
 
-#[derive(Drop)]
+#[derive(Clone, Copy)]
 pub(crate) struct Count {
     pub(crate) fault: u8,
     pub(crate) count: u32,
 }
 
-#[derive(Drop)]
+#[derive(Clone, Copy)]
 pub(crate) struct Counters {
     pub(crate) fault: u8,
     pub(crate) counters: [u32; 8],
 }
 
-#[derive(Drop)]
+#[derive(Clone, Copy)]
 pub(crate) struct Cells {
     pub(crate) fault: u8,
     pub(crate) masks: [u8; 32],
     pub(crate) values: [u32; 32],
 }
 
-#[derive(Drop)]
+#[derive(Clone, Copy)]
 pub(crate) struct Front {
     pub(crate) fault: u8,
     pub(crate) head: Head,

@@ -79,15 +79,15 @@ all_words [] p = tt
 all_words (w ∷ words) p = (word_fits w p.0, all_words words p.1)
 
 module _
-    (h : Head) (words : List ℕ) (low-counters : (i : ℕ) → at h.counters i 0 < 2 ^ 32) (low_values : (i : ℕ) → at h.values i 0 < 2 ^ 32)
-    (low-words : All (λ (w : ℕ). w < 2 ^ 64) words) (e : fault_of (file_of h words) ≡ none) where
+    (h : Head) (words : List ℕ) (low_counters : (i : ℕ) → at h.counters i 0 < 2 ^ 32) (low_values : (i : ℕ) → at h.values i 0 < 2 ^ 32)
+    (low_words : All (λ (w : ℕ). w < 2 ^ 64) words) (e : fault_of (file_of h words) ≡ none) where
   pub file_sound : Sound (file_of h words)
   unfolding file_of
   file_sound = record {
     no_fault = e;
-    counters_fit = all_firsts (λ (x : ℕ). x < 256 ^ 4) h.nodes (λ i. at h.counters i 0) low-counters;
+    counters_fit = all_firsts (λ (x : ℕ). x < 256 ^ 4) h.nodes (λ i. at h.counters i 0) low_counters;
     values_fit = all_firsts (λ (c : Cell). c.value < 256 ^ 4) h.cells (cell_in h.masks h.values) low_values;
-    steps_fit = all_words words low-words;
+    steps_fit = all_words words low_words;
   }
 
   pub file_read_back : read_file (bytes_of (file_of h words)) ≡ got (file_of h words) []

@@ -1,4 +1,6 @@
 // The writer of run files: it makes the one file of a run. Every public function takes any input.
+#![tactic(auto)]
+
 mod put;
 
 ghost use Rattle.std.specs.Prelude.{◌≡◌};

@@ -13,7 +13,7 @@ use Rattle.tables.specs.Pair.{pair, word}
 use Rattle.tables.specs.Loop.{every}
 use Rattle.tables.specs.Tests.{refusal}
 use Rattle.tables.proofs.Table.{put_at}
-use Rattle.tables.proofs.Choice.{not_both, by-test, and_true}
+use Rattle.tables.proofs.Choice.{not_both, by_test, and_true}
 use Rattle.tables.proofs.Pair.{pair_fits}
 use Rattle.tables.proofs.Loop.{every_at}
 use Rattle.counters.specs.Counters.{zeroed}
@@ -171,7 +171,7 @@ module _ (g : Group) (flight : List ℕ) (h : Chains) (writes reads : List ℕ) 
   whole_ready e t slot q n =
       let w = sound (state_of g flight h writes reads) e in
       let k = counts_in g.nodes g.cells w.counts in
-      by-test (ltb t 32)
+      by_test (ltb t 32)
       (λ l. rw q (ready_slot g.nodes g.cells k.0 k.1 g.masks writes reads w.notes (at g.slots t no_slot) t (slot_sound_lem t (ltb-true t 32 l) w)))
       (λ l. ready_none g.nodes g.cells k.0 k.1 g.masks writes reads w.notes slot (n (ltb-false t 32 l)))
 
@@ -239,7 +239,7 @@ module _ (g : Group) (flight : List ℕ) (h : Chains) (writes reads : List ℕ) 
         }
         ≡ step_whole s x
     put_back_at slot a n b c d t flight' h' writes' reads' e slots o counters p =
-        by-test (ltb x.slot 32) (λ l. let j = place ∙ ap (λ (m : Bool). cond m x.slot 0) l in inside j) (λ l. outside (ltb-false x.slot 32 l) (no_such_slot g.nodes g.cells x (is_used (uses_of x.kind).slot refl l) (ltb-false x.slot 32 l)))
+        by_test (ltb x.slot 32) (λ l. let j = place ∙ ap (λ (m : Bool). cond m x.slot 0) l in inside j) (λ l. outside (ltb-false x.slot 32 l) (no_such_slot g.nodes g.cells x (is_used (uses_of x.kind).slot refl l) (ltb-false x.slot 32 l)))
       where
         is_used : (u : Bool) → (uses_of x.kind).slot ≡ u → ltb x.slot 32 ≡ false → u ≡ true
         is_used true q l = refl

@@ -1,5 +1,7 @@
 // The step: what a state comes to by one step. A state that is not whole is refused with 15. A step moves one slot and one node's counters at
 // most: these two are taken out of the group, handed on by value to the step of the desk, and put back. The tables are changed where they lie.
+#![tactic(auto)]
+
 ghost use Rattle.std.specs.Prelude.{◌≡◌, true, ◌≤◌};
 ghost use Rattle.tables.specs.Table.{at, put};
 ghost use Rattle.counters.specs.Counters.{zeroed};
@@ -16,7 +18,7 @@ use group::{Answer, Group, Slot, Snapshot, Stage};
 use kinds::Step;
 
 // What a step answers, and the group after it.
-#[derive(Drop)]
+#[derive(Clone, Copy)]
 pub struct After {
     pub answer: Answer,
     pub group: Group,

@@ -11,7 +11,7 @@ use native.Mathlib.Decide.{ℕ_discrete}
 use borrow.Author.Tests.{ltb-true, ltb-false}
 use Rattle.tables.specs.Table.{at}
 use Rattle.tables.specs.Pair.{word}
-use Rattle.tables.proofs.Choice.{by-test, not_both}
+use Rattle.tables.proofs.Choice.{by_test, not_both}
 use Rattle.tables.proofs.Table.{put_size}
 use Rattle.tables.proofs.Loop.{least}
 use Rattle.tables.proofs.Tests.{Passed}
@@ -84,7 +84,7 @@ module _ (first : ℕ → ℕ) (s : State) (H : List Handed) (a : All first s H)
     -- each chain of a holder: with one version more, or as it was
     grow : (i m : ℕ) → i < 32 → m < 8 → holds s.group.masks m i ≡ true → Grown G S (links_of s) (links_of s₁) t n i m
     grow i m hi hm o = elim (ℕ_discrete m n) [
-      | yes d ↦ rw d (by-test (has s.writes t i) (λ w. added_one (rw d at o) w) (λ w. plain_one (rw d at o) w))
+      | yes d ↦ rw d (by_test (has s.writes t i) (λ w. added_one (rw d at o) w) (λ w. plain_one (rw d at o) w))
       | no d ↦ other d (after.away i m hi hm (a.inv.chaining.some m i hm hi o).1 (λ z. absurd (d z)))
     ]
       where

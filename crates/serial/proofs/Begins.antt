@@ -13,7 +13,7 @@ use lib.Pow.{pow_mono}
 use borrow.Author.Tests.{ltb-true, ltb-false}
 use Rattle.tables.specs.Table.{at}
 use Rattle.tables.specs.Pair.{pair, word}
-use Rattle.tables.proofs.Choice.{by-test, not_both}
+use Rattle.tables.proofs.Choice.{by_test, not_both}
 use Rattle.tables.proofs.Table.{at_all}
 use Rattle.tables.proofs.Pair.{pair_high, pair_low}
 use Rattle.tables.proofs.Loop.{each_size, each_hit}
@@ -41,7 +41,7 @@ none_above k m n l h = let e : m / 2 ^ n ≡ 0 = div-eq_of_lt (below (pow_mono h
 -- and, if it isn't 0, names one
 names_one : (k m : ℕ) → 0 < m → m < 2 ^ k → (n : ℕ) × (n < k) × (eqb (m / 2 ^ n % 2) 1 ≡ true)
 names_one zero m p l = absurd (omega arith)
-names_one (suc k) m p l = by-test (ltb m (2 ^ k)) (λ e. let r = names_one k m p (ltb-true _ _ e) in (r.0, omega (arith, r.1), r.2))
+names_one (suc k) m p l = by_test (ltb m (2 ^ k)) (λ e. let r = names_one k m p (ltb-true _ _ e) in (r.0, omega (arith, r.1), r.2))
     (λ e. let d : m / 2 ^ k ≡ 1 = div-eq_of_lt-le (2 ^ k) (omega (arith, ltb-false m (2 ^ k) e)) (omega arith) in (k, omega arith, rw d))
 
 -- ---- the chains
@@ -109,8 +109,8 @@ module _ (nodes cells : ℕ) (counters masks values : List ℕ) (q : Sound nodes
   }
     where
       in_run_lem : (n c : ℕ) → n < 8 → c < 32 → holds masks n c ≡ true → (n < nodes) × (c < cells)
-      in_run_lem n c hn hc o = let hc' : c < cells = by-test (ltb c cells) (λ e. ltb-true _ _ e) (λ e. absurd (not_both o (out e))) in
-          (by-test (ltb n nodes) (λ e. ltb-true _ _ e) (λ e. absurd (not_both o (none_above nodes (at masks c 0) n (q.masks_in c hc').1 (ltb-false _ _ e)))), hc')
+      in_run_lem n c hn hc o = let hc' : c < cells = by_test (ltb c cells) (λ e. ltb-true _ _ e) (λ e. absurd (not_both o (out e))) in
+          (by_test (ltb n nodes) (λ e. ltb-true _ _ e) (λ e. absurd (not_both o (none_above nodes (at masks c 0) n (q.masks_in c hc').1 (ltb-false _ _ e)))), hc')
         where
           out : ltb c cells ≡ false → holds masks n c ≡ false
           out e = let z : at masks c 0 ≡ 0 = q.masks_out c (ltb-false _ _ e) in ap (λ (m : ℕ). eqb (m / 2 ^ n % 2) 1) z ∙ none_above 0 0 n (omega arith) (omega arith)

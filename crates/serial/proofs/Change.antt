@@ -12,7 +12,7 @@ use lib.ListN.{length}
 use borrow.Author.Tests.{ltb-true, ltb-false}
 use Rattle.tables.specs.Table.{at}
 use Rattle.tables.specs.Pair.{word}
-use Rattle.tables.proofs.Choice.{by-test}
+use Rattle.tables.proofs.Choice.{by_test}
 use Rattle.tables.proofs.Table.{put_size, put_same, put_other, at_past}
 use Rattle.counters.specs.Counters.{zeroed, risen_to, counted_to}
 use Rattle.counters.specs.declared.Counters.{Counters}
@@ -183,7 +183,7 @@ no_read G C S t a v two three zero small = record { asked = λ e. absurd (two e)
 
 pub any_counters : (first : ℕ → ℕ) (s : State) (H : List Handed) → All first s H → (n : ℕ)
     → ((counters_at s n).counter < word) × ((counters_at s n).commit ≤ (counters_at s n).counter) × ((counters_at s n).seen ≤ (counters_at s n).counter)
-any_counters first s H a n = by-test (ltb n 8)
+any_counters first s H a n = by_test (ltb n 8)
     (λ e. let h = ltb-true n 8 e in (a.inv.counting.fits n h, a.inv.counting.commit n h, a.inv.counting.seen n h))
     (λ e. rw (at_past s.group.counters n (zeroed 0) (omega (arith, ltb-false, a.sizes.counters8))) (omega arith))
 

@@ -10,7 +10,7 @@ use native.Mathlib.Decide.{ℕ_discrete}
 use lib.Dec.{leb, ltb, eqb}
 use borrow.Author.Tests.{leb-true, leb-false, le-leb, ltb-true, lt-ltb, ltb-false, eqb-true, eq-eqb}
 use Rattle.tables.specs.Loop.{any}
-use Rattle.tables.proofs.Choice.{by-test, and_true, not_both}
+use Rattle.tables.proofs.Choice.{by_test, and_true, not_both}
 use Rattle.tables.proofs.Loop.{any_at, any_has, any_where, Where, found}
 use Rattle.chain.proofs.Laws.{size_in}
 use Rattle.group.specs.State.{State, holds, unfinished, has, writer, committed}
@@ -66,7 +66,7 @@ module _ (first : ℕ → ℕ) (s : State) (H : List Handed) (a : All first s H)
     up_to = go g.latest
       where
         go : Latest (ground_of s first) S h.cell h.s h.value → Last s (Picked s (λ j. leb j h.s) 32) first h.cell h.value
-        go (untouched f e) = nobody (λ t q. by-test (ltb 0 (S.wr t h.cell))
+        go (untouched f e) = nobody (λ t q. by_test (ltb 0 (S.wr t h.cell))
             (λ z. absurd (omega (arith, f t q.low (numbered t q.low q.writer) (ltb-true 0 (S.wr t h.cell) z), leb-true (S.fin t) h.s q.passes))) (λ z. omega (arith, ltb-false))) e
         go (last t ht f w l n) = wrote t (record { low = ht; writer = counts t h.cell ht hc f (omega arith); passes = le-leb _ _ l }) w
             (λ u q z. n u q.low (numbered u q.low q.writer) z (leb-true (S.fin u) h.s q.passes))
@@ -75,7 +75,7 @@ module _ (first : ℕ → ℕ) (s : State) (H : List Handed) (a : All first s H)
     between : 0 < S.fin h.slot → (u : ℕ) → u < 32 → u ≢ h.slot → 0 < S.fin u → 0 < S.wr u h.cell → S.fin u < S.fin h.slot → S.fin u ≤ h.s
     between f u hu d f' w l = elim (ℕ_discrete (S.tag t n) 5) [
       | yes e ↦ elim (ℕ_discrete (S.tag u n) 5) [
-        | yes e' ↦ by-test (leb (S.snap t) (S.fin u)) (λ z. absurd (omega (arith, a.inv.locking.valid t u n c k.slot_low hu hn hc d f e g.holder k.joined f' w e' (leb-true _ _ z)))) (λ z. omega (arith, leb-false (S.snap t) (S.fin u) z, k.fixed))
+        | yes e' ↦ by_test (leb (S.snap t) (S.fin u)) (λ z. absurd (omega (arith, a.inv.locking.valid t u n c k.slot_low hu hn hc d f e g.holder k.joined f' w e' (leb-true _ _ z)))) (λ z. omega (arith, leb-false (S.snap t) (S.fin u) z, k.fixed))
         | no e' ↦ absurd (omega (arith, a.inv.counting.pending u n hu hn vu (omega (arith, bu.low n hn)), under e', bt.past n hn f e))
       ]
       | no e ↦ elim (ℕ_discrete (S.tag u n) 5) [
@@ -121,7 +121,7 @@ module _ (first : ℕ → ℕ) (s : State) (H : List Handed) (a : All first s H)
         earlier u q w = let l = ltb-true (S.fin u) (S.fin h.slot) q.passes in between f u q.low (λ z. omega (arith, ap S.fin z)) (numbered u q.low q.writer) w l
 
         go : Latest (ground_of s first) S h.cell h.s h.value → Last s (Picked s (λ j. ltb j (number_of s h.slot)) 32) first h.cell h.value
-        go (untouched b x) = nobody (λ t q. by-test (ltb 0 (S.wr t h.cell))
+        go (untouched b x) = nobody (λ t q. by_test (ltb 0 (S.wr t h.cell))
             (λ z. let w = ltb-true 0 (S.wr t h.cell) z in absurd (omega (arith, b t q.low (numbered t q.low q.writer) w, earlier t q w))) (λ z. omega (arith, ltb-false))) x
         go (last t ht b w l n) = wrote t (record { low = ht; writer = counts t h.cell ht hc b (omega arith); passes = lt-ltb (S.fin t) (S.fin h.slot) (omega (arith, k.after f)) }) w
             (λ u q z. n u q.low (numbered u q.low q.writer) z (earlier u q z))
@@ -152,7 +152,7 @@ module _ (first : ℕ → ℕ) (s : State) (H : List Handed) (a : All first s H)
 
     at_end : Last s (Picked s (λ j. true) 32) first c (K.vval c n i)
     at_end = elim (ℕ_discrete i 0) [
-      | yes z ↦ nobody (λ t q. by-test (ltb 0 (S.wr t c)) (λ w. absurd (alone z (in_chain t q.low q.writer (ltb-true 0 (S.wr t c) w)))) (λ w. omega (arith, ltb-false)))
+      | yes z ↦ nobody (λ t q. by_test (ltb 0 (S.wr t c)) (λ w. absurd (alone z (in_chain t q.low q.writer (ltb-true 0 (S.wr t c) w)))) (λ w. omega (arith, ltb-false)))
           (ap (K.vval c n) z ∙ (a.inv.chaining.zero n c hn hc o).1)
       | no z ↦ go (a.inv.chaining.made n c i hn hc o (omega arith) (omega (arith, some₁)))
     ]

@@ -8,7 +8,7 @@ use native.Mathlib.Omega.{arith}
 use lib.Dec.{ltb}
 use borrow.Author.Tests.{ltb-true, ltb-false, eqb-true}
 use Rattle.tables.specs.Pair.{word}
-use Rattle.tables.proofs.Choice.{by-test, not_both}
+use Rattle.tables.proofs.Choice.{by_test, not_both}
 use Rattle.tables.proofs.Pair.{pair_high}
 use Rattle.tables.proofs.Loop.{any_at, any_where, Where, found}
 use Rattle.tables.proofs.Tests.{Passed}
@@ -65,7 +65,7 @@ module _ (first : ℕ → ℕ) (s : State) (H : List Handed) (a : All first s H)
       stage = stage_here first s H a x ht st
 
       none_written : (c : ℕ) → c < 32 → S.wr t c ≡ 0
-      none_written c hc = by-test (has s.writes t c)
+      none_written c hc = by_test (has s.writes t c)
           (λ z. absurd (not_both z (any_at (has s.writes t) s.group.cells b c (d.in_run c hc (omega (arith, e)) (ltb-true _ _ z)))))
           (λ z. omega (arith, ltb-false))
 
@@ -107,8 +107,8 @@ module _ (first : ℕ → ℕ) (s : State) (H : List Handed) (a : All first s H)
       goes_to n hn i = ap (◌/ word) (sent_here s.group.nodes s.group.cells s.group.masks s.flight s.writes s.reads t n a.sizes.flight256 ht a.sizes.nodes_high hn i) ∙ pair_high word 1 0 (omega arith)
 
       low : (n : ℕ) → n < 8 → S'.tag t n ≤ 2
-      low n hn = by-test (ltb n s.group.nodes)
-          (λ z. by-test (involved s.group.cells s.group.masks s.writes s.reads t n) (λ i. omega (arith, goes_to n (ltb-true _ _ z) i))
+      low n hn = by_test (ltb n s.group.nodes)
+          (λ z. by_test (involved s.group.cells s.group.masks s.writes s.reads t n) (λ i. omega (arith, goes_to n (ltb-true _ _ z) i))
           (λ i. omega (arith, ap (◌/ word) (sent_not s.group.nodes s.group.cells s.group.masks s.flight s.writes s.reads t n a.sizes.flight256 ht a.sizes.nodes_high (ltb-true _ _ z) i), idle n hn)))
           (λ z. omega (arith, outside n hn (ltb-false _ _ z)))
 

@@ -11,7 +11,7 @@ use native.Mathlib.Decide.{ℕ_discrete}
 use lib.Dec.{leb}
 use borrow.Author.Tests.{leb-true, leb-false, ltb-true, ltb-false}
 use Rattle.tables.specs.Loop.{turns}
-use Rattle.tables.proofs.Choice.{by-test, and_true, not_both}
+use Rattle.tables.proofs.Choice.{by_test, and_true, not_both}
 use Rattle.group.specs.State.{State, noted, has}
 use Rattle.serial.specs.Serial.{is_writer, number_of, insert, writers, ran_on, copy_after}
 
@@ -86,7 +86,7 @@ copy_last s [] first c a = nobody (λ t m. absurd (Memᴰ.not-nil m)) refl
 copy_last s (t ∷ us) first c a = go (copy_after s (ran_on s t first) us c) (copy_last s us (ran_on s t first) c a.1)
   where
     go : (v : ℕ) → Last s (λ u. Memᴰ u us) (ran_on s t first) c v → Last s (λ u. Memᴰ u (t ∷ us)) first c v
-    go v (nobody f e) = by-test (has s.writes t c)
+    go v (nobody f e) = by_test (has s.writes t c)
         (λ b. wrote t (Memᴰ.head refl) (own b) (λ u m l. ⊎_elim (λ d. omega (arith, ap (number_of s) d)) (λ n. absurd (omega (arith, f u n))) (Memᴰ.cases_cons m)))
         (λ b. nobody (λ u m. ⊎_elim (λ d. ap (λ (i : ℕ). noted s.writes i c) d ∙ none b) (λ n. f u n) (Memᴰ.cases_cons m)) (e ∙ rw b))
       where
@@ -112,7 +112,7 @@ module _ (s : State) (p : ℕ → Bool) where
   picked : (k : ℕ) → Ascends (number_of s) (turns k chooses []) × ((t : ℕ) → Memᴰ t (turns k chooses []) → Picked s p k t) × ((t : ℕ) → Picked s p k t → Memᴰ t (turns k chooses []))
   unfolding turns
   picked zero = (tt, λ t m. absurd (Memᴰ.not-nil m), λ t q. absurd (omega arith))
-  picked (suc k) = let r = picked k in by-test (is_writer s k && p (number_of s k)) (λ e. rw e (more e r)) (λ e. rw e (same e r))
+  picked (suc k) = let r = picked k in by_test (is_writer s k && p (number_of s k)) (λ e. rw e (more e r)) (λ e. rw e (same e r))
     where
       up : (t : ℕ) → Picked s p k t → Picked s p (suc k) t
       up t q = record { low = omega arith; writer = q.writer; passes = q.passes }

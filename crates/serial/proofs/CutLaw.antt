@@ -4,7 +4,7 @@ use mathlib.Core.Path.{◌≡◌, refl, ap, ◌∙◌}
 use mathlib.Core.Bool.{false}
 use Prim.Native.Nat.{ℕ, max}
 use native.Mathlib.Nat.{max-zero}
-use Rattle.tables.proofs.Choice.{by-test, not_both}
+use Rattle.tables.proofs.Choice.{by_test, not_both}
 use Rattle.counters.specs.declared.Counters.{Counters}
 use Rattle.kinds.specs.declared.Step.{Step}
 use Rattle.kinds.specs.Kinds.{Kind, begin, write, ask, serve, return, commit, prepare, decide, give_up, learn, apply, advance, abandon}
@@ -44,15 +44,15 @@ counter_written : (q : Desk) (x : Step) (k : Kind) → max q.counters.counter (r
 unfolding rise does ask_turn serve_turn return_turn commit_turn decide_turn learn_turn
 counter_written q x begin = max-zero _
 counter_written q x write = max-zero _
-counter_written q x ask = by-test (has q.writes x.slot x.cell) (λ e. rw e (max-zero _)) (λ e. rw e (max-zero _))
+counter_written q x ask = by_test (has q.writes x.slot x.cell) (λ e. rw e (max-zero _)) (λ e. rw e (max-zero _))
 counter_written q x serve =
-    by-test (blocked q.flight q.writes (ask_of q.slot.stage).node (ask_of q.slot.stage).cell (read_at (ask_of q.slot.stage) q.counters)) (λ e. rw (e, serve_turn)) (λ e. rw (e, serve_turn))
-counter_written q x return = by-test (spoilt q.slot) (λ e. rw e) (λ e. rw e)
-counter_written q x commit = by-test (writer q.cells q.writes x.slot) (λ e. rw e (max-zero _)) (λ e. rw e (max-zero _))
+    by_test (blocked q.flight q.writes (ask_of q.slot.stage).node (ask_of q.slot.stage).cell (read_at (ask_of q.slot.stage) q.counters)) (λ e. rw (e, serve_turn)) (λ e. rw (e, serve_turn))
+counter_written q x return = by_test (spoilt q.slot) (λ e. rw e) (λ e. rw e)
+counter_written q x commit = by_test (writer q.cells q.writes x.slot) (λ e. rw e (max-zero _)) (λ e. rw e (max-zero _))
 counter_written q x prepare = voted q.slot q.counters (vote_of q x)
-counter_written q x decide = by-test (refused_by q.nodes q.flight x.slot) (λ e. rw e (max-zero _)) (λ e. rw e (max-zero _))
+counter_written q x decide = by_test (refused_by q.nodes q.flight x.slot) (λ e. rw e (max-zero _)) (λ e. rw e (max-zero _))
 counter_written q x give_up = max-zero _
-counter_written q x learn = by-test (in_stage q.slot committed) (λ e. rw e) (λ e. rw e (ap (max q.counters.counter) (uncommitted q.slot q.slot.stage refl e) ∙ max-zero _))
+counter_written q x learn = by_test (in_stage q.slot committed) (λ e. rw e) (λ e. rw e (ap (max q.counters.counter) (uncommitted q.slot q.slot.stage refl e) ∙ max-zero _))
 counter_written q x apply = max-zero _
 counter_written q x advance = max-zero _
 counter_written q x abandon = max-zero _

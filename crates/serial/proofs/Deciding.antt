@@ -10,7 +10,7 @@ use native.Mathlib.Decide.{ℕ_discrete}
 use lib.Dec.{ltb, eqb}
 use borrow.Author.Tests.{ltb-true, ltb-false, eqb-true, eqb-false, not-true}
 use Rattle.tables.specs.Table.{at}
-use Rattle.tables.proofs.Choice.{by-test}
+use Rattle.tables.proofs.Choice.{by_test}
 use Rattle.tables.proofs.Table.{put_size, put_other}
 use Rattle.tables.proofs.Loop.{any_at, largest_reached, Reached, empty, reached}
 use Rattle.tables.proofs.Tests.{Passed}
@@ -55,7 +55,7 @@ module _ (first : ℕ → ℕ) (s : State) (H : List Handed) (a : All first s H)
     decides : refused_by s.group.nodes s.flight t ≡ false → lacking s.group.nodes s.flight t ≡ false
         → All first (set_slot s t (at_stage (slot_at s t) (Committed (final s.group.nodes s.flight t)))) H
     unfolding refused_by lacking final
-    decides no-no no_gap = record {
+    decides no_no no_gap = record {
       sizes = record { counters8 = z.counters8; slots32 = put_size _ _ _ ∙ z.slots32; flight256 = z.flight256; lens256 = z.lens256; versions2048 = z.versions2048; writes1024 = z.writes1024; reads1024 = z.reads1024; nodes_high = z.nodes_high; cells_high = z.cells_high; in_run_lem = z.in_run_lem; held = z.held };
       inv = subst (λ (g : ℕ → ℕ). Inv G C (record { stg = (slots_of s').stg; fin = (slots_of s').fin; snap = g; tag = S.tag; num = S.num; wr = S.wr; rd = S.rd }) (links_of s) (asks_of s') (notes_of s') H) (fun_ext snap)
           (chosen (largest_reached s.group.nodes vote_at));
@@ -86,11 +86,11 @@ module _ (first : ℕ → ℕ) (s : State) (H : List Handed) (a : All first s H)
         vote_at n = cond (eqb (S.tag t n) voted_yes) (S.num t n) 0
 
         inside : (n : ℕ) → n < 8 → 1 ≤ S.tag t n → n < s.group.nodes
-        inside n hn l = by-test (ltb n s.group.nodes) (λ y. ltb-true _ _ y) (λ y. absurd (omega (arith, b.outside n hn (ltb-false _ _ y))))
+        inside n hn l = by_test (ltb n s.group.nodes) (λ y. ltb-true _ _ y) (λ y. absurd (omega (arith, b.outside n hn (ltb-false _ _ y))))
 
         all_yes : (n : ℕ) → n < 8 → 1 ≤ S.tag t n → S.tag t n ≡ 3
         all_yes n hn l = let h = inside n hn l in
-            omega (arith, b.voting n hn e, eqb-false (S.tag t n) 2 (any_at (λ i. eqb (tag_at s.flight t i) voted_no) s.group.nodes no-no n h), eqb-false (S.tag t n) 1 (any_at (λ i. eqb (tag_at s.flight t i) sent) s.group.nodes no_gap n h))
+            omega (arith, b.voting n hn e, eqb-false (S.tag t n) 2 (any_at (λ i. eqb (tag_at s.flight t i) voted_no) s.group.nodes no_no n h), eqb-false (S.tag t n) 1 (any_at (λ i. eqb (tag_at s.flight t i) sent) s.group.nodes no_gap n h))
 
         largest_of : (n : ℕ) → n < 8 → S.tag t n ≡ 3 → S.num t n ≤ f
         largest_of n hn y = final_most s.group.nodes s.flight t n (inside n hn (omega arith)) y
@@ -105,7 +105,7 @@ module _ (first : ℕ → ℕ) (s : State) (H : List Handed) (a : All first s H)
 
         chosen : Reached s.group.nodes vote_at f → Inv G C (record { stg = (slots_of s').stg; fin = (slots_of s').fin; snap = S.snap; tag = S.tag; num = S.num; wr = S.wr; rd = S.rd }) (links_of s) (asks_of s') (notes_of s') H
         chosen (empty y) = absurd (omega (arith, positive))
-        chosen (reached p hp y) = by-test (eqb (S.tag t p) voted_yes)
+        chosen (reached p hp y) = by_test (eqb (S.tag t p) voted_yes)
             (λ d. decided G C S (slots_of s').stg (slots_of s').fin (links_of s) (asks_of s) (asks_of s') (notes_of s) (notes_of s') H t f p
             (λ u i. ap (λ (j : Slot). ask_of j.stage) (away_slot u i)) (λ u i. ap (λ (j : Slot). note_of j.stage) (away_slot u i))
             (record {
@@ -126,7 +126,7 @@ module _ (first : ℕ → ℕ) (s : State) (H : List Handed) (a : All first s H)
 
   pub decide_keeps : Passed (needs (desk_of s x) x decide) → All first (put_back s x (does (desk_of s x) x decide).desk) H
   unfolding needs does desk_of decide_tests decide_turn
-  decide_keeps o = by-test (refused_by s.group.nodes s.flight t)
+  decide_keeps o = by_test (refused_by s.group.nodes s.flight t)
       (λ b. subst (λ (z : Turn). All first (put_back s x (turned (desk_of s x) z).desk) H) (sym (turns_no b)) (turned_slot first s H a x ht (turn Answer.Aborted (at_stage (slot_at s t) Aborted) k) refl
       (aborts first s H a x ht (omega (arith, e)) (none_final e) (λ n hn. (a.inv.deciding t ht).voting n hn e))))
       (λ b. subst (λ (z : Turn). All first (put_back s x (turned (desk_of s x) z).desk) H) (sym (turns_yes b)) (turned_slot first s H a x ht (turn (Answer.Committed f) (at_stage (slot_at s t) (Committed f)) k) refl

@@ -10,7 +10,7 @@ use native.Mathlib.Decide.{ℕ_discrete}
 use borrow.Author.Tests.{leb-true, eqb-true}
 use Rattle.tables.specs.Table.{at}
 use Rattle.tables.specs.Pair.{word}
-use Rattle.tables.proofs.Choice.{by-test, and_true}
+use Rattle.tables.proofs.Choice.{by_test, and_true}
 use Rattle.tables.proofs.Tests.{Passed}
 use Rattle.counters.specs.Counters.{counted_to}
 use Rattle.kinds.specs.declared.Step.{Step}
@@ -151,7 +151,7 @@ module _ (first : ℕ → ℕ) (s : State) (H : List Handed) (a : All first s H)
 
   pub learn_keeps : x.slot < 32 → x.node < s.group.nodes → place_of s x ≡ x.node → Passed (needs (desk_of s x) x learn) → All first (put_back s x (does (desk_of s x) x learn).desk) H
   unfolding needs does desk_of put_back learn_tests learn_turn learn_flight
-  learn_keeps ht hn p o = by-test (in_stage (slot_at s x.slot) committed) commits aborts
+  learn_keeps ht hn p o = by_test (in_stage (slot_at s x.slot) committed) commits aborts
     where
       r : (1 ≤ S.tag x.slot n) × (S.tag x.slot n ≤ 3)
       r = let w = and_true _ _ o.1.0 in (leb-true _ _ w.0, leb-true _ _ w.1)

@@ -9,7 +9,7 @@ use native.Mathlib.Omega.{arith}
 use native.Mathlib.Decide.{ℕ_discrete}
 use lib.Dec.{ltb}
 use borrow.Author.Tests.{ltb-true, ltb-false}
-use Rattle.tables.proofs.Choice.{by-test}
+use Rattle.tables.proofs.Choice.{by_test}
 use Rattle.chain.specs.Chain.{size, newest}
 use Rattle.chain.specs.declared.Version.{Version}
 use Rattle.chain.proofs.Laws.{size_in, Newest, no_version, version, newest_is}
@@ -47,7 +47,7 @@ module _ (first : ℕ → ℕ) (s : State) (H : List Handed) (a : All first s H)
   found : (r : Option Version) → Newest s.chains.lens s.chains.versions c n k r → Latest G S c k (value_of r)
   found none (no_version f) = absurd (omega (arith, f 0 (omega (arith, sized, a.inv.chaining.some n c hn hc held)), a.inv.chaining.zero n c hn hc held))
   found (some v) (version i h l f) = elim (ℕ_discrete i 0) [
-    | yes e ↦ untouched (λ u hu g w. by-test (ltb k (S.fin u)) (λ z. ltb-true _ _ z) (λ z. absurd (above u g w (omega (arith, e)) (stands u hu g w (ltb-false _ _ z)) (ltb-false _ _ z))))
+    | yes e ↦ untouched (λ u hu g w. by_test (ltb k (S.fin u)) (λ z. ltb-true _ _ z) (λ z. absurd (above u g w (omega (arith, e)) (stands u hu g w (ltb-false _ _ z)) (ltb-false _ _ z))))
         (ap (K.vval c n) e ∙ (a.inv.chaining.zero n c hn hc held).1)
     | no e ↦ writer (a.inv.chaining.made n c i hn hc held (omega arith) (omega (arith, sized)))
   ]
@@ -56,8 +56,8 @@ module _ (first : ℕ → ℕ) (s : State) (H : List Handed) (a : All first s H)
       above u g w z (into j p b x y) o = omega (arith, f j (omega arith) (omega (arith, sized)))
 
       most : (u t : ℕ) → K.vnum c n i ≡ S.fin t → S.fin u ≤ k → Into K n c (S.fin u) (S.wr u c) → S.fin u ≤ S.fin t
-      most u t z o (into j p b x y) = by-test (ltb i j) (λ q. absurd (omega (arith, f j (ltb-true _ _ q) (omega (arith, sized)))))
-          (λ q. by-test (ltb j i) (λ q'. omega (arith, a.inv.chaining.up n c j i hn hc held (ltb-true _ _ q') (omega (arith, sized)))) (λ q'. let d : i ≡ j = omega (arith, ltb-false) in omega (arith, ap (K.vnum c n) d)))
+      most u t z o (into j p b x y) = by_test (ltb i j) (λ q. absurd (omega (arith, f j (ltb-true _ _ q) (omega (arith, sized)))))
+          (λ q. by_test (ltb j i) (λ q'. omega (arith, a.inv.chaining.up n c j i hn hc held (ltb-true _ _ q') (omega (arith, sized)))) (λ q'. let d : i ≡ j = omega (arith, ltb-false) in omega (arith, ap (K.vnum c n) d)))
 
       writer : From S n c (K.vnum c n i) (K.vval c n i) → Latest G S c k (K.vval c n i)
       writer (from t ht g w x y) = last t ht g w (omega arith) (λ u hu g' w' o. most u t y o (stands u hu g' w' o))

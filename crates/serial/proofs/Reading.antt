@@ -12,7 +12,7 @@ use native.Mathlib.Decide.{ℕ_discrete}
 use borrow.Author.Tests.{eqb-true, lt-ltb}
 use Rattle.tables.specs.Table.{put}
 use Rattle.tables.specs.Pair.{pair, word}
-use Rattle.tables.proofs.Choice.{by-test}
+use Rattle.tables.proofs.Choice.{by_test}
 use Rattle.tables.proofs.Table.{put_same, put_other}
 use Rattle.tables.proofs.Pair.{pair_inj}
 use Rattle.tables.proofs.Tests.{Passed}
@@ -73,7 +73,7 @@ module _ (first : ℕ → ℕ) (s : State) (H : List Handed) (a : All first s H)
 
     pub read_low : k < word
     unfolding read_at
-    read_low = by-test ask.exact (λ z. rw z asked.3) (λ z. rw z (omega (arith, asked.3, any_counters first s H a (place_of s x))))
+    read_low = by_test ask.exact (λ z. rw z asked.3) (λ z. rw z (omega (arith, asked.3, any_counters first s H a (place_of s x))))
 
     -- a read whose snapshot is fixed is at that
     fixed : 0 < (slots_of s).snap t → (slots_of s).snap t ≡ suc k
@@ -148,7 +148,7 @@ module _ (first : ℕ → ℕ) (s : State) (H : List Handed) (a : All first s H)
 
   pub serve_keeps : place_of s x ≡ (ask_of (slot_at s t).stage).node → Passed (needs (desk_of s x) x serve) → All first (put_back s x (does (desk_of s x) x serve).desk) H
   unfolding needs does desk_of
-  serve_keeps p o = by-test (blocked s.flight s.writes (ask e p).node (ask e p).cell (k e p))
+  serve_keeps p o = by_test (blocked s.flight s.writes (ask e p).node (ask e p).cell (k e p))
       (λ b. subst (λ (z : Turn). All first (put_back s x (turned (desk_of s x) z).desk) H) (sym (serve_waits (slot_at s t) c s.flight s.writes s.chains b)) (turned_risen waiting (k e p) refl (wait e p)))
       (λ b. subst (λ (z : Turn). All first (put_back s x (turned (desk_of s x) z).desk) H) (sym (serve_notes (slot_at s t) c s.flight s.writes s.chains b)) (turned_risen noting (k e p) refl (done e p b)))
     where

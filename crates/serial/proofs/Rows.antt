@@ -10,7 +10,7 @@ use lib.ListN.{length}
 use borrow.Author.Tests.{ltb-false, lt-ltb}
 use Rattle.tables.specs.Table.{at, put}
 use Rattle.tables.specs.Pair.{pair, word}
-use Rattle.tables.proofs.Choice.{by-test}
+use Rattle.tables.proofs.Choice.{by_test}
 use Rattle.tables.proofs.Table.{put_size, put_other}
 use Rattle.tables.proofs.Pair.{pair_inj}
 use Rattle.group.specs.State.{State, entered, holds, noted, has, sent, involved}
@@ -99,7 +99,7 @@ cleared_rows s t z = record {
 -- a holder of a cell that was read or written is involved
 pub involves : (cells : ℕ) (masks w r : List ℕ) (t n c : ℕ) → c < cells → holds masks n c ≡ true → 0 < noted r t c + noted w t c → involved cells masks w r t n ≡ true
 unfolding involved
-involves cells masks w r t n c hc o l = any_has _ cells c hc (rw o (by-test (has r t c) (λ z. rw z) (λ z. rw z (lt-ltb 0 (noted w t c) (omega (arith, ltb-false))))))
+involves cells masks w r t n c hc o l = any_has _ cells c hc (rw o (by_test (has r t c) (λ z. rw z) (λ z. rw z (lt-ltb 0 (noted w t c) (omega (arith, ltb-false))))))
 
 -- a node that is sent a prepare, and one that is not
 pub sent_here : (nodes cells : ℕ) (masks f w r : List ℕ) (t n : ℕ) → length f ≡ 256 → t < 32 → nodes ≤ 8 → n < nodes → involved cells masks w r t n ≡ true → at (sent_to nodes cells masks f w r t) (pair 8 t n) 0 ≡ pair word sent 0

@@ -11,7 +11,7 @@ use borrow.Author.Tests.{ltb-true, ltb-false, leb-true, eqb-true}
 use Rattle.tables.specs.Table.{at}
 use Rattle.tables.specs.Pair.{pair, word}
 use Rattle.tables.specs.Tests.{refusal}
-use Rattle.tables.proofs.Choice.{by-test, and_true}
+use Rattle.tables.proofs.Choice.{by_test, and_true}
 use Rattle.tables.proofs.Pair.{pair_low}
 use Rattle.tables.proofs.Loop.{least}
 use Rattle.tables.proofs.Tests.{Passed, passed}
@@ -44,7 +44,7 @@ use Rattle.serial.proofs.Views.{All, Sizes, fixed_at, ground_of, same_slot, set_
 use Rattle.serial.proofs.Rows.{sent_away, sent_here, sent_not, sent_rows}
 use Rattle.serial.proofs.Change.{moved, slot_here}
 use Rattle.serial.proofs.Shape.{Shape, Touches, entry_shape, moved_shape, stage_shape, touches, uncounted}
-use Rattle.serial.proofs.Steps.{Fields-in, at_kind, fields_in, final_low}
+use Rattle.serial.proofs.Steps.{FieldsIn, at_kind, fields_in, final_low}
 use Rattle.serial.proofs.ShapeTurns.{aborts_early, aborts_voting, ask_shape, begin_shape, by_turn, involved_touches, return_shape, same_shape, serve_shape, stages, turned_shape, write_shape}
 
 module _ (first : ℕ → ℕ) (s : State) (H : List Handed) (a : All first s H) (b : Shape s) (x : Step) where
@@ -103,8 +103,8 @@ module _ (first : ℕ → ℕ) (s : State) (H : List Handed) (a : All first s H)
         asis n h d = (λ l. absurd (omega (arith, ap (◌/ word) d, idle n h)), ap (◌% word) d ∙ (b.slots t ht).early n h (omega (arith, idle n h)))
 
         goes : (n : ℕ) → n < 8 → (1 ≤ (slots_of s').tag t n → Touches (ground_of s (λ c. 0)) S t n) × ((slots_of s').num t n ≡ 0)
-        goes n h = by-test (ltb n s.group.nodes)
-            (λ d. by-test (involved s.group.cells s.group.masks s.writes s.reads t n)
+        goes n h = by_test (ltb n s.group.nodes)
+            (λ d. by_test (involved s.group.cells s.group.masks s.writes s.reads t n)
             (λ i. (λ l. involved_touches s t n z.cells_high i, ap (◌% word) (sent_here s.group.nodes s.group.cells s.group.masks s.flight s.writes s.reads t n z.flight256 ht z.nodes_high (ltb-true _ _ d) i) ∙ pair_low word 1 0 (omega arith)))
             (λ i. asis n h (sent_not s.group.nodes s.group.cells s.group.masks s.flight s.writes s.reads t n z.flight256 ht z.nodes_high (ltb-true _ _ d) i)))
             (λ d. asis n h (sent_away s.group.nodes s.group.cells s.group.masks s.flight s.writes s.reads t t n z.nodes_high h (λ i. ltb-false _ _ d)))
@@ -117,7 +117,7 @@ module _ (first : ℕ → ℕ) (s : State) (H : List Handed) (a : All first s H)
 
     decide_shape : Passed (needs (desk_of s x) x decide) → Shape (put_back s x (does (desk_of s x) x decide).desk)
     unfolding needs does desk_of decide_tests decide_turn
-    decide_shape o = by-test (refused_by s.group.nodes s.flight t)
+    decide_shape o = by_test (refused_by s.group.nodes s.flight t)
         (λ d. by_turn first s H a b x (decide_turn (slot_at s t) k s.group.nodes s.flight t) (turn Answer.Aborted (at_stage (slot_at s t) Aborted) k) (rw (d, decide_turn)) (turned_shape first s H a b x (turn Answer.Aborted (at_stage (slot_at s t) Aborted) k) (aborts_voting first s H a b x ht e)))
         (λ d. by_turn first s H a b x (decide_turn (slot_at s t) k s.group.nodes s.flight t) (turn (Answer.Committed f) (at_stage (slot_at s t) (Committed f)) k) (rw (d, decide_turn)) (turned_shape first s H a b x (turn (Answer.Committed f) (at_stage (slot_at s t) (Committed f)) k) (stage_shape s t (Committed f) z ht (omega (arith, e)) (λ d. absurd (omega arith)) (λ l. again ((a.inv.deciding t ht).votes e)) (omega arith) b)))
       where
@@ -172,7 +172,7 @@ module _ (first : ℕ → ℕ) (s : State) (H : List Handed) (a : All first s H)
 
     learn_shape : x.slot < 32 → Passed (needs (desk_of s x) x learn) → Shape (put_back s x (does (desk_of s x) x learn).desk)
     unfolding needs does desk_of put_back learn_tests learn_turn learn_flight
-    learn_shape ht o = by-test (in_stage (slot_at s t) committed)
+    learn_shape ht o = by_test (in_stage (slot_at s t) committed)
         (λ e. rw (e, learn_turn, learn_flight) (entered_shape (counted_to (counters_at s m) (S.fin t)) t n to_apply (S.fin t) s.chains ht hn8 (final_low first s H a t ht) low (omega arith) (λ l. absurd (omega arith)) (λ l. absurd (omega arith))))
         (λ e. rw (e, learn_turn, learn_flight) (entered_shape (counters_at s m) t n finished 0 s.chains ht hn8 (omega arith) low (omega arith) (λ l. refl) (λ l. refl)))
       where
@@ -207,7 +207,7 @@ module _ (first : ℕ → ℕ) (s : State) (H : List Handed) (a : All first s H)
 
   -- ---- every step
 
-  kinds_shape : (k : Kind) → named x.kind ≡ k → Fields-in s x k → Passed (needs (desk_of s x) x k) → Shape (put_back s x (does (desk_of s x) x k).desk)
+  kinds_shape : (k : Kind) → named x.kind ≡ k → FieldsIn s x k → Passed (needs (desk_of s x) x k) → Shape (put_back s x (does (desk_of s x) x k).desk)
   kinds_shape begin e f o = begin_shape first s H a b x (f.slot refl) (f.node refl) o
   kinds_shape write e f o = write_shape first s H a b x (f.slot refl) (f.cell refl) o
   kinds_shape ask e f o = ask_shape first s H a b x (f.slot refl) o
@@ -225,7 +225,7 @@ module _ (first : ℕ → ℕ) (s : State) (H : List Handed) (a : All first s H)
   judged_shape : (r : Option ℕ) → refusal (field_tests s.group.nodes s.group.cells x (needs (desk_of s x) x (named x.kind))) ≡ r
       → Shape (put_back s x (judge r (desk_of s x) (cond (leb 128 x.kind) (cuts (desk_of s x) x (named x.kind)) (does (desk_of s x) x (named x.kind)))).desk)
   judged_shape none e = let o = passed _ e in
-      by-test (leb 128 x.kind) (λ d. rw d (cut_shape (named x.kind))) (λ d. rw d (kinds_shape (named x.kind) refl (fields_in s x (named x.kind) (needs (desk_of s x) x (named x.kind)) refl o) o.1.1.1))
+      by_test (leb 128 x.kind) (λ d. rw d (cut_shape (named x.kind))) (λ d. rw d (kinds_shape (named x.kind) refl (fields_in s x (named x.kind) (needs (desk_of s x) x (named x.kind)) refl o) o.1.1.1))
   judged_shape (some c) e = refused_shape c
 
   pub step_shape : Shape (step_whole s x).state

@@ -12,7 +12,7 @@ use native.Mathlib.Decide.{ℕ_discrete}
 use borrow.Author.Tests.{ltb-true, eqb-true}
 use Rattle.tables.specs.Table.{at, put}
 use Rattle.tables.specs.Pair.{pair, word}
-use Rattle.tables.proofs.Choice.{by-test, and_true}
+use Rattle.tables.proofs.Choice.{by_test, and_true}
 use Rattle.tables.proofs.Table.{put_same, put_other}
 use Rattle.tables.proofs.Pair.{pair_inj}
 use Rattle.tables.proofs.Loop.{any_where, Where, found}
@@ -157,7 +157,7 @@ module _ (first : ℕ → ℕ) (s : State) (H : List Handed) (a : All first s H)
 
     pub ask_shape : Passed (needs (desk_of s x) x ask) → Shape (put_back s x (does (desk_of s x) x ask).desk)
     unfolding needs does desk_of ask_tests ask_turn
-    ask_shape o = by-test (has s.writes t x.cell)
+    ask_shape o = by_test (has s.writes t x.cell)
         (λ d. by_turn (ask_turn (slot_at s t) (counters_at s m) s.writes t x.node x.cell) (turn (Value 0 (noted s.writes t x.cell - 1)) (slot_at s t) k) (rw (d, ask_turn)) (turned_shape (turn (Value 0 (noted s.writes t x.cell - 1)) (slot_at s t) k) same_shape))
         (λ d. by_turn (ask_turn (slot_at s t) (counters_at s m) s.writes t x.node x.cell) (turn (Done 0) (at_stage (slot_at s t) st) k) (rw (d, ask_turn)) (turned_shape (turn (Done 0) (at_stage (slot_at s t) st) k) (stages st (omega (arith, eqb-true (S.stg t) 1 o.0)) (λ y. omega arith) refl (omega arith))))
       where
@@ -169,7 +169,7 @@ module _ (first : ℕ → ℕ) (s : State) (H : List Handed) (a : All first s H)
 
     pub serve_shape : Passed (needs (desk_of s x) x serve) → Shape (put_back s x (does (desk_of s x) x serve).desk)
     unfolding needs does desk_of serve_turn note_for
-    serve_shape o = by-test (blocked s.flight s.writes (ask_of (slot_at s t).stage).node (ask_of (slot_at s t).stage).cell k)
+    serve_shape o = by_test (blocked s.flight s.writes (ask_of (slot_at s t).stage).node (ask_of (slot_at s t).stage).cell k)
         (λ d. by_turn (serve_turn (slot_at s t) c s.flight s.writes s.chains) waiting (rw (d, serve_turn)) (turned_shape waiting (stages (Asking (wait_for (ask_of (slot_at s t).stage) k)) l (λ y. omega arith) refl (omega arith))))
         (λ d. by_turn (serve_turn (slot_at s t) c s.flight s.writes s.chains) noting (rw (d, serve_turn)) (turned_shape noting (stages (Served (note_for s.chains (ask_of (slot_at s t).stage) k)) l (λ y. omega arith) refl (looked_low s.chains.lens s.chains.versions _ _ k))))
       where
@@ -196,7 +196,7 @@ module _ (first : ℕ → ℕ) (s : State) (H : List Handed) (a : All first s H)
 
     pub return_shape : Passed (needs (desk_of s x) x return) → Shape (put_back s x (does (desk_of s x) x return).desk)
     unfolding needs desk_of put_back return_turn return_reads
-    return_shape o = by-test (spoilt (slot_at s t))
+    return_shape o = by_test (spoilt (slot_at s t))
         (λ d. returned_shape (turn Answer.Aborted (at_stage (slot_at s t) Aborted) k) s.reads (rw (d, return_turn)) (rw (d, return_reads))
         (uncounted s m k t (at_stage (slot_at s t) Aborted) s.flight s.chains s.writes s.reads (aborts_early (omega (arith, e)) (omega (arith, e)))))
         (λ d. returned_shape (turn (Value v.s v.value) y k) r (rw (d, return_turn)) (rw (d, return_reads)) (uncounted s m k t y s.flight s.chains s.writes r hands))

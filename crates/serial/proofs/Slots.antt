@@ -10,7 +10,7 @@ use native.Mathlib.Decide.{ℕ_discrete}
 use borrow.Author.Tests.{leb-true, eqb-true}
 use Rattle.tables.specs.Table.{at, put}
 use Rattle.tables.specs.Pair.{pair, word}
-use Rattle.tables.proofs.Choice.{by-test, and_true}
+use Rattle.tables.proofs.Choice.{by_test, and_true}
 use Rattle.tables.proofs.Table.{put_same, put_other}
 use Rattle.tables.proofs.Pair.{pair_inj}
 use Rattle.tables.proofs.Tests.{Passed}
@@ -149,7 +149,7 @@ module _ (first : ℕ → ℕ) (s : State) (H : List Handed) (a : All first s H)
 
   pub ask_keeps : (counters_at s (place_of s x)).commit < word → x.node < s.group.nodes → x.cell < s.group.cells → Passed (needs (desk_of s x) x ask) → All first (put_back s x (does (desk_of s x) x ask).desk) H
   unfolding needs does desk_of ask_tests ask_turn
-  ask_keeps low hn hc o = by-test (has s.writes t x.cell)
+  ask_keeps low hn hc o = by_test (has s.writes t x.cell)
       (λ e. subst (λ (z : Turn). All first (put_back s x (turned (desk_of s x) z).desk) H) (sym (own e)) (turned_slot first s H a x ht (turn (Value 0 (noted s.writes t x.cell - 1)) (slot_at s t) k) refl (subst (λ (z : State). All first z H) (sym (same_slot s t)) a)))
       (λ e. subst (λ (z : Turn). All first (put_back s x (turned (desk_of s x) z).desk) H) (sym (other e))
       (turned_slot first s H a x ht (turn (Done 0) (at_stage (slot_at s t) st) k) refl (restaged first s H a x ht st (undecided first s H a x ht 1 opened (λ z. omega arith)) refl

@@ -13,7 +13,7 @@ use borrow.Author.Tests.{ltb-true, ltb-false, eqb-true, ne_eqb}
 use Rattle.tables.specs.Table.{at}
 use Rattle.tables.specs.Pair.{word}
 use Rattle.tables.specs.Tests.{refusal}
-use Rattle.tables.proofs.Choice.{by-test, and_true, not_both}
+use Rattle.tables.proofs.Choice.{by_test, and_true, not_both}
 use Rattle.tables.proofs.Tests.{Passed, passed}
 use Rattle.counters.specs.Counters.{counted_to}
 use Rattle.counters.specs.declared.Counters.{Counters}
@@ -51,12 +51,12 @@ use Rattle.serial.proofs.Applying.{apply_keeps, advance_keeps}
 
 -- only a return hands out of the store
 pub nothing_handed : (s : State) (x : Step) (r : Answer) → eqb x.kind 5 ≡ false → handed_by s x r ≡ []
-nothing_handed s x r e = by-test (eqb (said r).code 1) (λ c. rw (c, e)) (λ c. rw c)
+nothing_handed s x r e = by_test (eqb (said r).code 1) (λ c. rw (c, e)) (λ c. rw c)
 
 -- kind 5 is return
 five : (k : ℕ) → named k ≢ return → eqb k 5 ≡ false
 unfolding named at
-five k d = by-test (eqb k 5) (λ e. absurd (d (ap named (eqb-true k 5 e)))) (λ e. e)
+five k d = by_test (eqb k 5) (λ e. absurd (d (ap named (eqb-true k 5 e)))) (λ e. e)
 
 -- any kind but return
 abbrev Other : Kind → Type 0
@@ -94,7 +94,7 @@ fewer first s h H a = record {
 
 -- ---- the fields that a kind uses
 
-pub record Fields-in (s : State) (x : Step) (k : Kind) : Type 0 where
+pub record FieldsIn (s : State) (x : Step) (k : Kind) : Type 0 where
   pub node : (uses_by k).node ≡ true → x.node < s.group.nodes
   pub slot : (uses_by k).slot ≡ true → x.slot < 32
   pub cell : (uses_by k).cell ≡ true → x.cell < s.group.cells
@@ -103,7 +103,7 @@ used : (b c : Bool) → (not b || c) ≡ true → b ≡ true → c ≡ true
 used true c e d = e
 used false c e d = absurd (not_both d refl)
 
-pub fields_in : (s : State) (x : Step) (k : Kind) (ts : List (Bool × ℕ)) → named x.kind ≡ k → Passed (field_tests s.group.nodes s.group.cells x ts) → Fields-in s x k
+pub fields_in : (s : State) (x : Step) (k : Kind) (ts : List (Bool × ℕ)) → named x.kind ≡ k → Passed (field_tests s.group.nodes s.group.cells x ts) → FieldsIn s x k
 fields_in s x k ts e o =
     let u : uses_of x.kind ≡ uses_by k = uses_named x.kind o.0 ∙ ap uses_by e in
     let b = and_true _ _ o.1.1.0 in
@@ -119,7 +119,7 @@ at_kind s x k e = ap (λ (j : Kind). node_of j (slot_at s x.slot) x.node) e
 
 -- a final number is one that a node has counted
 pub final_low : (first : ℕ → ℕ) (s : State) (H : List Handed) → All first s H → (t : ℕ) → t < 32 → (slots_of s).fin t < word
-final_low first s H a t ht = by-test (ltb 0 ((slots_of s).fin t))
+final_low first s H a t ht = by_test (ltb 0 ((slots_of s).fin t))
     (λ z. omega (arith, a.inv.numbering.given t ht (ltb-true _ _ z), a.inv.counting.fits ((slots_of s).fin t % 8) (omega arith))) (λ z. omega (arith, ltb-false))
 
 -- ---- a whole step
@@ -132,12 +132,12 @@ module _ (first : ℕ → ℕ) (s : State) (H : List Handed) (a : All first s H)
   quietly_done k d e b = subst (λ (l : List Handed). All first (put_back s x (does (desk_of s x) x k).desk) (l ++ H))
       (sym (nothing_handed s x (does (desk_of s x) x k).answer (five x.kind (λ z. other k d (sym e ∙ z))))) b
 
-  returns : Fields-in s x return → Passed (needs (desk_of s x) x return) → After (does (desk_of s x) x return)
+  returns : FieldsIn s x return → Passed (needs (desk_of s x) x return) → After (does (desk_of s x) x return)
   unfolding needs does desk_of return_turn
-  returns f o = by-test (spoilt (slot_at s x.slot))
+  returns f o = by_test (spoilt (slot_at s x.slot))
       (λ b. subst (λ (r : Answer). All first (put_back s x (does (desk_of s x) x return).desk) (handed_by s x r ++ H)) (sym (spoils b)) (return_spoils first s H a x ht e b))
       (λ b. subst (λ (r : Answer). All first (put_back s x (does (desk_of s x) x return).desk) (handed_by s x r ++ H)) (sym (hands b))
-      (by-test (eqb x.kind 5) (λ z. rw z (return_hands first s H a x ht e b)) (λ z. rw z (fewer first _ (handing first s H a x ht) H (return_hands first s H a x ht e b)))))
+      (by_test (eqb x.kind 5) (λ z. rw z (return_hands first s H a x ht e b)) (λ z. rw z (fewer first _ (handing first s H a x ht) H (return_hands first s H a x ht e b)))))
     where
       ht : x.slot < 32
       ht = f.slot refl
@@ -151,7 +151,7 @@ module _ (first : ℕ → ℕ) (s : State) (H : List Handed) (a : All first s H)
       hands : spoilt (slot_at s x.slot) ≡ false → (return_turn (slot_at s x.slot) (counters_at s (place_of s x))).answer ≡ Value (note_of (slot_at s x.slot).stage).s (note_of (slot_at s x.slot).stage).value
       hands b = rw (b, return_turn)
 
-  kinds_keep : (k : Kind) → named x.kind ≡ k → Fields-in s x k → Passed (needs (desk_of s x) x k) → After (does (desk_of s x) x k)
+  kinds_keep : (k : Kind) → named x.kind ≡ k → FieldsIn s x k → Passed (needs (desk_of s x) x k) → After (does (desk_of s x) x k)
   kinds_keep begin e f o = quietly_done begin tt e (begin_keeps first s H a x (f.slot refl) o)
   kinds_keep write e f o = quietly_done write tt e (write_keeps first s H a x (f.slot refl) (f.cell refl) hv o)
   kinds_keep ask e f o = quietly_done ask tt e (ask_keeps first s H a x (f.slot refl) (omega (arith, any_counters first s H a (place_of s x))) (f.node refl) (f.cell refl) o)
@@ -174,7 +174,7 @@ module _ (first : ℕ → ℕ) (s : State) (H : List Handed) (a : All first s H)
   votes_low c n none (some k) (number b o l m) = omega arith
   votes_low c n (some i) p q = omega arith
 
-  rises_low : (k : Kind) → named x.kind ≡ k → Fields-in s x k → Passed (needs (desk_of s x) x k) → rise (desk_of s x) x k < word
+  rises_low : (k : Kind) → named x.kind ≡ k → FieldsIn s x k → Passed (needs (desk_of s x) x k) → rise (desk_of s x) x k < word
   unfolding rise needs desk_of vote learn_tests
   rises_low begin e f o = omega arith
   rises_low write e f o = omega arith
@@ -190,7 +190,7 @@ module _ (first : ℕ → ℕ) (s : State) (H : List Handed) (a : All first s H)
   rises_low advance e f o = omega arith
   rises_low abandon e f o = omega arith
 
-  cuts_keep : (k : Kind) → named x.kind ≡ k → Fields-in s x k → Passed (needs (desk_of s x) x k) → After (cuts (desk_of s x) x k)
+  cuts_keep : (k : Kind) → named x.kind ≡ k → FieldsIn s x k → Passed (needs (desk_of s x) x k) → After (cuts (desk_of s x) x k)
   unfolding cuts desk_of put_back
   cuts_keep k e f o = subst (λ (z : State). All first z H) (sym (same_slot (set_counters s (place_of s x) (counted_to (counters_at s (place_of s x)) (rise (desk_of s x) x k))) x.slot))
       (counted_to_lem first s H (place_of s x) (rise (desk_of s x) x k) (rises_low k e f o) a)
@@ -205,7 +205,7 @@ module _ (first : ℕ → ℕ) (s : State) (H : List Handed) (a : All first s H)
   judged : (r : Option ℕ) → Accepted r → refusal (field_tests s.group.nodes s.group.cells x (needs (desk_of s x) x (named x.kind))) ≡ r
       → After (judge r (desk_of s x) (cond (leb 128 x.kind) (cuts (desk_of s x) x (named x.kind)) (does (desk_of s x) x (named x.kind))))
   judged none h e = let o = passed _ e in let f = fields_in s x (named x.kind) (needs (desk_of s x) x (named x.kind)) refl o in
-      by-test (leb 128 x.kind) (λ b. rw b (cuts_keep (named x.kind) refl f o.1.1.1)) (λ b. rw b (kinds_keep (named x.kind) refl f o.1.1.1))
+      by_test (leb 128 x.kind) (λ b. rw b (cuts_keep (named x.kind) refl f o.1.1.1)) (λ b. rw b (kinds_keep (named x.kind) refl f o.1.1.1))
   judged (some c) h e = refused_same c h.0
 
   pub whole_step : All first (step_whole s x).state (handed_by s x (step_whole s x).answer ++ H)
@@ -214,7 +214,7 @@ module _ (first : ℕ → ℕ) (s : State) (H : List Handed) (a : All first s H)
 
 pub step_keeps : (first : ℕ → ℕ) (r : Run) (x : Step) → x.value < word → All first r.state r.handed → All first (next r x).state (next r x).handed
 unfolding next step_of
-step_keeps first r x hv a = by-test (whole r.state) (λ b. rw (b, step_of) (whole_step first r.state r.handed a x hv)) (λ b. rw (b, step_of) a)
+step_keeps first r x hv a = by_test (whole r.state) (λ b. rw (b, step_of) (whole_step first r.state r.handed a x hv)) (λ b. rw (b, step_of) a)
 
 -- ---- a run
 

@@ -11,7 +11,7 @@ use native.Mathlib.Decide.{ℕ_discrete}
 use lib.ListN.{length}
 use Rattle.tables.specs.Pair.{pair, word}
 use Rattle.tables.specs.Loop.{turns}
-use Rattle.tables.proofs.Choice.{by-test, not_both, and_true}
+use Rattle.tables.proofs.Choice.{by_test, not_both, and_true}
 use Rattle.tables.proofs.Pair.{pair_inj}
 use Rattle.chain.specs.Chain.{Chains, len_at, version_at, added}
 use Rattle.chain.proofs.Laws.{added_lens, added_versions, added_len, added_len_other, added_version, added_version_other}
@@ -119,7 +119,7 @@ module _ (masks writes : List ℕ) (t n k : ℕ) (h : Chains) (ls : length h.len
   unfolding turns
   all zero l = record { lens256 = ls; versions2048 = vs; here = λ c hc b. absurd (omega arith); away = λ c m hc hm s d. asis refl (λ i b. refl) }
   all (suc j) l = let q = all j (omega arith) in
-      by-test (adds j) (λ e. rw e (grows j (turns j turn h) (omega arith) e q)) (λ e. rw e (skips j (turns j turn h) (omega arith) e q))
+      by_test (adds j) (λ e. rw e (grows j (turns j turn h) (omega arith) e q)) (λ e. rw e (skips j (turns j turn h) (omega arith) e q))
 
   pub stored_some : (cells : ℕ) → cells ≤ 32 → Some cells (stored cells masks h writes t n k)
   unfolding stored

@@ -10,7 +10,7 @@ use lib.Dec.{leb, ltb, eqb}
 use borrow.Author.Tests.{ltb-true, ltb-false, leb-true, leb-false, eqb-true, eqb-false, lt-ltb, le-leb, eq-eqb, ne_eqb}
 use Rattle.tables.specs.Table.{at}
 use Rattle.tables.specs.Pair.{word}
-use Rattle.tables.proofs.Choice.{by-test, and_true, or_true, not_both}
+use Rattle.tables.proofs.Choice.{by_test, and_true, or_true, not_both}
 use Rattle.tables.proofs.Pair.{pair_back}
 use Rattle.tables.proofs.Loop.{any_has, any_where, Where, found, every_all}
 use Rattle.chain.specs.Chain.{latest, has_room}
@@ -65,7 +65,7 @@ pending_tag f t n e = let r = and_true (leb 3 (tag_at f t n)) (leb (tag_at f t n
 
 ended_tag : (f : List ℕ) (t n : ℕ) → unfinished f t n ≡ false → 3 ≤ tag_at f t n → 4 < tag_at f t n
 unfolding unfinished
-ended_tag f t n e l = by-test (leb (tag_at f t n) 4) (λ d. absurd (not_both (rw (le-leb 3 (tag_at f t n) l, d)) e)) (λ d. leb-false _ _ d)
+ended_tag f t n e l = by_test (leb (tag_at f t n) 4) (λ d. absurd (not_both (rw (le-leb 3 (tag_at f t n) l, d)) e)) (λ d. leb-false _ _ d)
 
 module _ (first : ℕ → ℕ) (s : State) (H : List Handed) (a : All first s H) (b : Shape s) where
   abbrev S : Slots
@@ -109,7 +109,7 @@ module _ (first : ℕ → ℕ) (s : State) (H : List Handed) (a : All first s H)
       d = a.inv.deciding t ht
 
       number : (unfinished s.flight t n || eqb (S.num t n) 0) ≡ true
-      number = by-test (unfinished s.flight t n) (λ e. rw e) (λ e. rw e (eq-eqb (S.num t n) 0 (by-test (leb 3 (S.tag t n))
+      number = by_test (unfinished s.flight t n) (λ e. rw e) (λ e. rw e (eq-eqb (S.num t n) 0 (by_test (leb 3 (S.tag t n))
           (λ l. (b.slots t ht).late n hn (omega (arith, d.low n hn, ended_tag s.flight t n e (leb-true _ _ l)))) (λ l. (b.slots t ht).early n hn (leb-false _ _ l)))))
 
   flight_is : flight_sound nodes s.flight ≡ true
@@ -149,7 +149,7 @@ module _ (first : ℕ → ℕ) (s : State) (H : List Handed) (a : All first s H)
 
     slot_is : slot_sound nodes cells masks (slot_at s t) s.writes s.reads t ≡ true
     unfolding slot_sound
-    slot_is = by-test (in_stage (slot_at s t) unused) (λ e. rw e) (λ e. let l : 0 < S.stg t = omega (arith, eqb-false (S.stg t) 0 e) in rw e (both _ _ (places l) (sets l)))
+    slot_is = by_test (in_stage (slot_at s t) unused) (λ e. rw e) (λ e. let l : 0 < S.stg t = omega (arith, eqb-false (S.stg t) 0 e) in rw e (both _ _ (places l) (sets l)))
 
     -- ---- entries at the holders of the read and written cells
 
@@ -184,15 +184,15 @@ module _ (first : ℕ → ℕ) (s : State) (H : List Handed) (a : All first s H)
     again (writes c hc i w) = writes c hc i w
 
     unnumbered : writer cells s.writes t ≡ false → S.fin t ≡ 0
-    unnumbered w = by-test (ltb 0 (S.fin t)) (λ e. absurd (not_both (wrote_some (again (k.author (ltb-true _ _ e)))) w)) (λ e. omega (arith, ltb-false (0) (S.fin t) e))
+    unnumbered w = by_test (ltb 0 (S.fin t)) (λ e. absurd (not_both (wrote_some (again (k.author (ltb-true _ _ e)))) w)) (λ e. omega (arith, ltb-false (0) (S.fin t) e))
 
     spread_is : spread_sound (S.stg t) (writer cells s.writes t) (spread nodes cells masks s.flight s.writes s.reads t) (empty nodes s.flight t) ≡ true
-    spread_is = by-test (eqb (S.stg t) 4) (λ e. rw e (spreads (λ n c hn hc o l. d.sent n c hn hc (eqb-true _ _ e) o l)))
-        (λ e₄. by-test (eqb (S.stg t) 5)
-        (λ e. by-test (writer cells s.writes t)
+    spread_is = by_test (eqb (S.stg t) 4) (λ e. rw e (spreads (λ n c hn hc o l. d.sent n c hn hc (eqb-true _ _ e) o l)))
+        (λ e₄. by_test (eqb (S.stg t) 5)
+        (λ e. by_test (writer cells s.writes t)
         (λ w. rw (e₄, e, w) (spreads (λ n c hn hc o l. d.entered n c hn hc (numbered (eqb-true _ _ e) w) o l)))
         (λ w. let i : eqb (S.stg t) 6 ≡ false = ne_eqb (S.stg t) 6 (λ z. omega (arith, eqb-true (S.stg t) 5 e)) in rw (e₄, e, w, i) (nowhere_is (λ n hn. d.plain n hn (eqb-true _ _ e) (unnumbered w)))))
-        (λ e₅. by-test (eqb (S.stg t) 6)
+        (λ e₅. by_test (eqb (S.stg t) 6)
         (λ e. rw (e₄, e₅, e) (either (k.aborted (eqb-true _ _ e))))
         (λ e. rw (e₄, e₅, e) (nowhere_is (λ n hn. d.early n hn (omega (arith, stage_low (slot_at s t).stage, eqb-false (S.stg t) 4 e₄, eqb-false (S.stg t) 5 e₅, eqb-false (S.stg t) 6 e)))))))
       where
@@ -210,11 +210,11 @@ module _ (first : ℕ → ℕ) (s : State) (H : List Handed) (a : All first s H)
         (implied _ _ (λ e. eq-eqb _ _ (d.learned n hn (eqb-true _ _ e)).1))
       where
         under : (3 ≤ S.tag t n) × (S.tag t n ≤ 4) → S.num t n ≤ S.fin t
-        under r = by-test (eqb (S.tag t n) 3) (λ e. d.below n hn l (eqb-true _ _ e)) (λ e. omega (arith, d.learned n hn (omega (arith, r, eqb-false (S.tag t n) 3 e))))
+        under r = by_test (eqb (S.tag t n) 3) (λ e. d.below n hn l (eqb-true _ _ e)) (λ e. omega (arith, d.learned n hn (omega (arith, r, eqb-false (S.tag t n) 3 e))))
 
     committed_is : committed_sound nodes cells (slot_at s t) s.flight s.writes t ≡ true
     unfolding committed_sound
-    committed_is = by-test (in_stage (slot_at s t) committed && writer cells s.writes t)
+    committed_is = by_test (in_stage (slot_at s t) committed && writer cells s.writes t)
         (λ e. let r = and_true _ _ e in rw e (every_all (final_at (S.fin t) s.flight t) nodes (λ n h. final_is n (node_low n h) (numbered (eqb-true _ _ r.0) r.1))))
         (λ e. rw e (every_all (unapplying_at s.flight t) nodes (λ n h. ap not (ne_eqb _ _ (λ z. no_number e (d.learned n (node_low n h) z).0)))))
       where

@@ -1,6 +1,8 @@
 // Settling: rule E, apply; step 12, advance. Each moves one node's counters and one slot, which go by value, and tables that the
 // caller lends and that are changed where they lie. The refusals come first, in their order; then the cut step, which changes no table; then
 // the whole step. The functions are for callers that know their places to be in range.
+#![tactic(auto)]
+
 ghost use Rattle.std.specs.Prelude.{◌≡◌, cond, ◌&&◌, ℕ, ◌-◌, ◌≤◌, ◌<◌};
 ghost use Rattle.tables.specs.Tests.{refusal};
 ghost use Rattle.tables.specs.Loop.{any, lesser};
@@ -14,7 +16,7 @@ use counters::Counters;
 use group::{Slot, Turn};
 
 // What rule E looks for: a transaction, with its number beside it so that no number is read twice.
-#[derive(Drop)]
+#[derive(Clone, Copy)]
 enum Found {
     At { slot: u8, number: u32 },
     Nothing,

@@ -1,4 +1,6 @@
 // Prints what a run file comes to.
+#![tactic(auto)]
+
 ghost use Rattle.std.specs.Prelude.{◌≡◌};
 ghost use Rattle.text.specs.Text.{placed};
 ghost use Rattle.runfile.specs.File.{read_file};

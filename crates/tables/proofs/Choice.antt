@@ -10,9 +10,9 @@ pub not_both : {b : Bool} → b ≡ true → b ≡ false → ⊥
 not_both p q = let z : ◌≡◌ {A = ℕ} 0 1 = cc in omega arith
 
 -- the two cases of a test, with its outcome at hand
-pub by-test {ℓ} : {A : Type ℓ} (b : Bool) → (b ≡ true → A) → (b ≡ false → A) → A
-by-test true f g = f refl
-by-test false f g = g refl
+pub by_test {ℓ} : {A : Type ℓ} (b : Bool) → (b ≡ true → A) → (b ≡ false → A) → A
+by_test true f g = f refl
+by_test false f g = g refl
 
 pub not_not : (b : Bool) → not (not b) ≡ b
 not_not true = refl

@@ -15,7 +15,7 @@ use lib.ListN.{length}
 use borrow.Author.Tests.{ltb-true, ltb-false}
 use Rattle.tables.specs.Table.{at, put}
 use Rattle.tables.specs.Loop.{any, every, turns, largest, last_at, lesser, least_at, each}
-use Rattle.tables.proofs.Choice.{not_both, by-test, not_not, or_false, or_true}
+use Rattle.tables.proofs.Choice.{not_both, by_test, not_not, or_false, or_true}
 use Rattle.tables.proofs.Table.{put_size, put_same, put_other}
 
 -- what a loop has come to when it ends
@@ -82,7 +82,7 @@ pub data Where (k : ℕ) (p : ℕ → Bool) (b : Bool) : Type 0 where
 pub any_where : (k : ℕ) (p : ℕ → Bool) → any k p ≡ true → Where k p true
 unfolding any
 any_where zero p e = absurd (not_both e refl)
-any_where (suc k) p e = by-test (any k p) (λ q. up (any_where k p q)) (λ q. found k (omega arith) (rw q at e))
+any_where (suc k) p e = by_test (any k p) (λ q. up (any_where k p q)) (λ q. found k (omega arith) (rw q at e))
   where
     up : Where k p true → Where (suc k) p true
     up (found i h q) = found i (omega arith) q
@@ -158,7 +158,7 @@ largest_reached (suc k) f = go (largest_reached k f)
   where
     go : Reached k f (largest k f) → Reached (suc k) f (max (largest k f) (f k))
     go (empty e) = reached k (omega arith) (omega arith)
-    go (reached i h e) = by-test (ltb (largest k f) (f k)) (λ q. reached k (omega arith) (omega (arith, ltb-true))) (λ q. reached i (omega arith) (omega (arith, ltb-false)))
+    go (reached i h e) = by_test (ltb (largest k f) (f k)) (λ q. reached k (omega arith) (omega (arith, ltb-true))) (λ q. reached i (omega arith) (omega (arith, ltb-false)))
 
 pub largest_same : (k : ℕ) (f g : ℕ → ℕ) → ((i : ℕ) → i < k → f i ≡ g i) → largest k f ≡ largest k g
 unfolding largest
@@ -199,8 +199,8 @@ last_only k p r l = go r (last_at k p) l (last_is k p)
     go none (some j) (no_last n) (last h q m) = absurd (not_both q (n j h))
     go (some i) none (last h q n) (no_last m) = absurd (not_both q (m i h))
     go (some i) (some j) (last h q n) (last l o m) =
-        ap some (by-test (ltb i j) (λ e. absurd (not_both o (n j (ltb-true i j e) l))) (λ e.
-        by-test (ltb j i) (λ e'. absurd (not_both q (m i (ltb-true j i e') h))) (λ e'. omega (arith, ltb-false))))
+        ap some (by_test (ltb i j) (λ e. absurd (not_both o (n j (ltb-true i j e) l))) (λ e.
+        by_test (ltb j i) (λ e'. absurd (not_both q (m i (ltb-true j i e') h))) (λ e'. omega (arith, ltb-false))))
 
 pub last_at_same : (k : ℕ) (p q : ℕ → Bool) → ((i : ℕ) → i < k → p i ≡ q i) → last_at k p ≡ last_at k q
 unfolding last_at
@@ -250,8 +250,8 @@ least_only k p f r l = go r (least_at k p f) l (least_is k p f)
     go none (some j) (no_least n) (least h q m o) = absurd (not_both q (n j h))
     go (some i) none (least h q n o) (no_least m) = absurd (not_both q (m i h))
     go (some i) (some j) (least h q n o) (least h' q' n' o') =
-        ap some (by-test (ltb i j) (λ e. absurd (omega (arith, o' i (ltb-true i j e) q, n j h' q'))) (λ e.
-        by-test (ltb j i) (λ e'. absurd (omega (arith, o j (ltb-true j i e') q', n' i h q))) (λ e'. omega (arith, ltb-false))))
+        ap some (by_test (ltb i j) (λ e. absurd (omega (arith, o' i (ltb-true i j e) q, n j h' q'))) (λ e.
+        by_test (ltb j i) (λ e'. absurd (omega (arith, o j (ltb-true j i e') q', n' i h q))) (λ e'. omega (arith, ltb-false))))
 
 pub least_at_same :
     (k : ℕ) (p q : ℕ → Bool) (f g : ℕ → ℕ) → ((i : ℕ) → i < k → p i ≡ q i) → ((i : ℕ) → i < k → f i ≡ g i) → least_at k p f ≡ least_at k q g

@@ -9,7 +9,7 @@ use lib.Dec.{leb}
 use lib.ListN.{length, drop, get_or, set, length-append}
 use lib.Seq.{drop-cons, drop-length, sets}
 use borrow.Author.Tests.{lt-ltb, le-leb, lt-leb, leb-true, leb-false}
-use Rattle.tables.proofs.Choice.{by-test}
+use Rattle.tables.proofs.Choice.{by_test}
 use Rattle.text.specs.Text.{digit, decimal_in, decimal, placed, after}
 use Rattle.text.proofs.Digits.{decimal_more, decimal_size_one, decimal_size_more, by_digits}
 use Rattle.text.proofs.Placed.{sets_append, sets_swap, placed_in}
@@ -19,7 +19,7 @@ use Rattle.text.proofs.Placed.{sets_append, sets_swap, placed_in}
 -- what fits, with no sum that could wrap
 pub room_test : (len i k : ℕ) → i ≤ len → leb k (len - i) ≡ leb (i + k) len
 room_test len i k h =
-    by-test (leb k (len - i)) (λ e. e ∙ sym (le-leb (i + k) len (omega (arith, leb-true)))) (λ e. e ∙ sym (lt-leb (i + k) len (omega (arith, leb-false))))
+    by_test (leb k (len - i)) (λ e. e ∙ sym (le-leb (i + k) len (omega (arith, leb-true)))) (λ e. e ∙ sym (lt-leb (i + k) len (omega (arith, leb-false))))
 
 -- what comes out once the bytes of s from i on are stored, where those before them stand in out already
 unfoldable pub with_rest : List ℕ → ℕ → List ℕ → ℕ → List ℕ

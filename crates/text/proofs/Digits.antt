@@ -7,7 +7,7 @@ use native.Mathlib.Omega.{arith}
 use lib.Dec.{ltb}
 use lib.ListN.{length, get_or, length-append, get_or-append}
 use borrow.Author.Tests.{lt-ltb, le-ltb, ltb-true, ltb-false}
-use Rattle.tables.proofs.Choice.{by-test}
+use Rattle.tables.proofs.Choice.{by_test}
 use Rattle.text.specs.Text.{digit, decimal_in, decimal, line_of}
 
 -- ---- examples
@@ -48,7 +48,7 @@ module _ (k n : ℕ) where
 
 -- the two cases of a number
 pub by_digits {ℓ} : {A : Type ℓ} (n : ℕ) → (n < 10 → A) → (10 ≤ n → A) → A
-by_digits n f g = by-test (ltb n 10) (λ e. f (ltb-true n 10 e)) (λ e. g (ltb-false n 10 e))
+by_digits n f g = by_test (ltb n 10) (λ e. f (ltb-true n 10 e)) (λ e. g (ltb-false n 10 e))
 
 decimal_size_in : (k n : ℕ) → length (decimal_in k n) ≤ k
 unfolding decimal_in

@@ -9,7 +9,7 @@ use lib.Dec.{leb}
 use lib.ListN.{length, take, drop, set, length-append}
 use lib.Seq.{take_at, drop_at, take-set-le, drop-set-lt, length-take-le, set_comm, sets, sets-eq, length-sets}
 use borrow.Author.Tests.{le-leb, lt-leb, leb-true, leb-false}
-use Rattle.tables.proofs.Choice.{by-test}
+use Rattle.tables.proofs.Choice.{by_test}
 use Rattle.text.specs.Text.{decimal, line_of, placed, after}
 use Rattle.text.proofs.Lines.{line_parts, line_length}
 
@@ -44,7 +44,7 @@ module _ (len i : ℕ) (bs : List ℕ) where
 
   -- the two cases
   by_end {ℓ} : {A : Type ℓ} → (i + length bs ≤ len → A) → (len < i + length bs → A) → A
-  by_end f g = by-test (leb (i + length bs) len) (λ e. f (leb-true _ _ e)) (λ e. g (leb-false _ _ e))
+  by_end f g = by_test (leb (i + length bs) len) (λ e. f (leb-true _ _ e)) (λ e. g (leb-false _ _ e))
 
 module _ (out : List ℕ) (i : ℕ) (bs : List ℕ) where
   pub placed_in : i + length bs ≤ length out → placed out i bs ≡ sets out i bs

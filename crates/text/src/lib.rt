@@ -1,5 +1,7 @@
 // Decimal numbers and lines, written byte for byte into bytes that the caller lends. Every function takes any place and any bytes, and
 // returns the place past what it wrote: it writes the whole or, where that does not fit, nothing, and returns the same place.
+#![tactic(auto)]
+
 ghost use Rattle.std.specs.Prelude.{◌≡◌, [], ◌∷◌, ◌++◌, ◌+◌, ◌≤◌, leb, length};
 ghost use Rattle.text.specs.Text.{decimal as decimal_of, line_of, placed, after};
 

@@ -12,7 +12,7 @@ use lib.Dec.{ltb}
 use borrow.Author.Tests.{ltb-true, ltb-false, eqb-true, eqb-false, ne_eqb, lt-ltb, not-true}
 use Rattle.tables.specs.Loop.{any}
 use Rattle.tables.specs.Tests.{refusal}
-use Rattle.tables.proofs.Choice.{by-test, and_true, or_false, not_both, not_not}
+use Rattle.tables.proofs.Choice.{by_test, and_true, or_false, not_both, not_not}
 use Rattle.tables.proofs.Loop.{any_at, any_where, Where, found}
 use Rattle.tables.proofs.Tests.{Passed}
 use Rattle.number.specs.Proposal.{proposal, IsProposal}
@@ -61,8 +61,8 @@ apart : (w r : List ℕ) (t u c : ℕ) → (has w t c && (has r u c || has w u c
 apart w r t u c a b = (
   λ l. let v = or_false (has r u c) (has w u c) (both_not (has w t c) _ (lt-ltb 0 (noted w t c) l) a) in (nothing_there r u c v.0, nothing_there w u c v.1),
   λ l. (
-    by-test (has r t c) (λ v. absurd (not_both (lt-ltb 0 (noted w u c) l) (both_not (has r t c) (has w u c) v b))) (λ v. nothing_there r t c v),
-    by-test (has w t c) (λ v. absurd (not_both (lt-ltb 0 (noted w u c) l) (or_false (has r u c) (has w u c) (both_not (has w t c) _ v a)).1)) (λ v. nothing_there w t c v),
+    by_test (has r t c) (λ v. absurd (not_both (lt-ltb 0 (noted w u c) l) (both_not (has r t c) (has w u c) v b))) (λ v. nothing_there r t c v),
+    by_test (has w t c) (λ v. absurd (not_both (lt-ltb 0 (noted w u c) l) (or_false (has r u c) (has w u c) (both_not (has w t c) _ v a)).1)) (λ v. nothing_there w t c v),
   ),
 )
 
@@ -77,15 +77,15 @@ module _ (slot : Slot) (c : Counters) (cells : ℕ) (masks flight : List ℕ) (c
   module _ (k : ℕ) (e : voted ≡ votes_yes k) where
     no_conflict : conflict cells masks flight writes reads t n ≡ false
     unfolding vote reason refusal
-    no_conflict = by-test (conflict cells masks flight writes reads t n) (λ z. absurd (no_yes 1 k (rw z at e))) (λ z. z)
+    no_conflict = by_test (conflict cells masks flight writes reads t n) (λ z. absurd (no_yes 1 k (rw z at e))) (λ z. z)
 
     not_outdated : outdated cells masks chains reads t n (snapshot_of slot.snapshot) ≡ false
     unfolding vote reason refusal
-    not_outdated = by-test (outdated cells masks chains reads t n (snapshot_of slot.snapshot)) (λ z. absurd (no_yes 2 k (rw (no_conflict, z) at e))) (λ z. z)
+    not_outdated = by_test (outdated cells masks chains reads t n (snapshot_of slot.snapshot)) (λ z. absurd (no_yes 2 k (rw (no_conflict, z) at e))) (λ z. z)
 
     not_full : full cells masks chains writes t n ≡ false
     unfolding vote reason refusal
-    not_full = by-test (full cells masks chains writes t n) (λ z. absurd (no_yes 3 k (rw (no_conflict, not_outdated, z) at e))) (λ z. z)
+    not_full = by_test (full cells masks chains writes t n) (λ z. absurd (no_yes 3 k (rw (no_conflict, not_outdated, z) at e))) (λ z. z)
 
     its_number : proposal n c.counter ≡ some k
     unfolding vote reason refusal
@@ -126,9 +126,9 @@ module _ (slot : Slot) (c : Counters) (cells : ℕ) (masks flight : List ℕ) (c
 
   -- without a conflict, the reason is another
   other_reason : conflict cells masks flight writes reads t n ≡ false → voted ≢ votes_no 1
-  other_reason e d = by-test (outdated cells masks chains reads t n (snapshot_of slot.snapshot))
+  other_reason e d = by_test (outdated cells masks chains reads t n (snapshot_of slot.snapshot))
       (λ f. differs (no_2 slot c cells masks flight chains writes reads t n e f ∙ d))
-      (λ f. by-test (full cells masks chains writes t n) (λ g. differs₃ (no_3 slot c cells masks flight chains writes reads t n e f g ∙ d))
+      (λ f. by_test (full cells masks chains writes t n) (λ g. differs₃ (no_3 slot c cells masks flight chains writes reads t n e f g ∙ d))
       (λ g. last (proposal n c.counter) (by_proposal slot c cells masks flight chains writes reads t n e f g ∙ d)))
     where
       differs : votes_no 2 ≡ votes_no 1 → ⊥
@@ -146,18 +146,18 @@ module _ (slot : Slot) (c : Counters) (cells : ℕ) (masks flight : List ℕ) (c
   pub own_is_no_bar :
       ((u i : ℕ) → u < 32 → u ≢ t → unfinished flight u n ≡ true → i < cells → holds masks n i ≡ true → Apart writes reads t u i) → voted ≢ votes_no 1
   unfolding conflict bars
-  own_is_no_bar f = other_reason (by-test (conflict cells masks flight writes reads t n) (λ e. absurd (who (any_where 32 (rival cells masks flight writes reads t n) e))) (λ e. e))
+  own_is_no_bar f = other_reason (by_test (conflict cells masks flight writes reads t n) (λ e. absurd (who (any_where 32 (rival cells masks flight writes reads t n) e))) (λ e. e))
     where
       where_both : (u i : ℕ) → (has writes t i && (has reads u i || has writes u i)) ≡ true → Apart writes reads t u i → ⊥
       where_both u i e a = let r = and_true (has writes t i) (has reads u i || has writes u i) e in let l = a.0 (ltb-true _ _ r.0) in
-          by-test (has reads u i) (λ z. omega (arith, ltb-true 0 (noted reads u i) z)) (λ z. let w : has writes u i ≡ true = rw z at r.1 in omega (arith, ltb-true 0 (noted writes u i) w))
+          by_test (has reads u i) (λ z. omega (arith, ltb-true 0 (noted reads u i) z)) (λ z. let w : has writes u i ≡ true = rw z at r.1 in omega (arith, ltb-true 0 (noted writes u i) w))
 
       where_read : (u i : ℕ) → (has reads t i && has writes u i) ≡ true → Apart writes reads t u i → ⊥
       where_read u i e a = let r = and_true (has reads t i) (has writes u i) e in omega (arith, a.1 (ltb-true _ _ r.1), ltb-true 0 (noted reads t i) r.0)
 
       what : (u : ℕ) → u < 32 → u ≢ t → unfinished flight u n ≡ true → Where cells (bars masks writes reads t n u) true → ⊥
       what u hu d p (found i hi e) = let r = and_true _ _ e in let a = f u i hu d p hi r.0 in
-          by-test (has writes t i && (has reads u i || has writes u i)) (λ z. where_both u i z a) (λ z. where_read u i (rw z at r.1) a)
+          by_test (has writes t i && (has reads u i || has writes u i)) (λ z. where_both u i z a) (λ z. where_read u i (rw z at r.1) a)
 
       who : Where 32 (rival cells masks flight writes reads t n) true → ⊥
       who (found u hu e) = let r = and_true _ _ e in let q = and_true _ _ r.0 in

@@ -1,6 +1,8 @@
 // Voting: rule C, prepare. It moves one slot and one node's counters, which go by value; of the tables, which the caller lends, the flight table
 // alone is changed, where it lies. The refusals come first, in their order; then the cut step, which changes no table; then the whole step.
 // The functions are for callers that know their places to be in range.
+#![tactic(auto)]
+
 ghost use Rattle.std.specs.Prelude.{◌≡◌, ◌&&◌, ◌||◌, ◌≤◌, ◌<◌};
 ghost use Rattle.std.proofs.Math.Option.{none};
 ghost use Rattle.tables.specs.Loop.{any};
@@ -16,7 +18,7 @@ use group::{Answer, Slot, Turn};
 use number::Proposal;
 
 // What rule C comes to: yes with the proposal, or no with the reason.
-#[derive(Drop)]
+#[derive(Clone, Copy)]
 enum Ballot {
     Yes(u32),
     No(u32),

@@ -10,7 +10,7 @@ use lib.Dec.{leb, eqb, ltb}
 use lib.Pow.{pow_pos}
 use borrow.Author.Tests.{leb-true, ltb-true, ltb-false, ne_eqb}
 use Rattle.tables.specs.Loop.{every}
-use Rattle.tables.proofs.Choice.{by-test, and_true}
+use Rattle.tables.proofs.Choice.{by_test, and_true}
 use Rattle.tables.proofs.Loop.{every_none, at_end}
 use Rattle.whole.specs.Whole.{same, counts_sound}
 
@@ -33,7 +33,7 @@ module _ {k : ℕ} {p : ℕ → Bool} where
 -- a number has no bit from place n on
 pub shifted_out : (x n : ℕ) → eqb (x / 2 ^ n) 0 ≡ ltb x (2 ^ n)
 shifted_out x n =
-    by-test (ltb x (2 ^ n)) (λ e. rw (div-eq_of_lt (ltb-true x (2 ^ n) e), e)) (λ e.
+    by_test (ltb x (2 ^ n)) (λ e. rw (div-eq_of_lt (ltb-true x (2 ^ n) e), e)) (λ e.
     rw e (ne_eqb (x / 2 ^ n) 0 (λ z. omega (arith, z, div-eq-sub-div (pow_pos n) (ltb-false x (2 ^ n) e)))))
 
 -- equal tests are both passed or both failed

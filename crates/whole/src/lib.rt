@@ -1,6 +1,8 @@
 // Is a state whole? The paper's paragraph, a module for each of its sentences: here what it says of counts, masks, transactions and their flight
 // entries. Once the counts are in range no test leaves a table, so that the others are joined by `&` and all tried. A whole state is the
 // usual case, and for it nothing would be gained by stopping early.
+#![tactic(auto)]
+
 mod entries;
 mod ranges;
 mod slots;

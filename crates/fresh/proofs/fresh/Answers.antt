@@ -1,0 +1,10 @@
+-- `fresh::fresh` meets its contract, by what the parts ensure.
+-- Assumes nothing.
+use Rattle.fresh.specs.Fresh.{fresh}
+use Rattle.fresh.proofs.fresh.Goals as goal
+
+pub returns : goal.returns
+unfolding fresh
+returns c =
+    let v = c.before.before.before.before.before.before in
+    rw (v.before.before.lens.ensures, v.versions.ensures, c.counters-counters.ensures, c.slots-slots.ensures)

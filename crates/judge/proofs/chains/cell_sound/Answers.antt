@@ -1,0 +1,13 @@
+-- `judge::chains::cell_sound` meets its contract: the chains at the nodes passed are tried.
+use Prim.Native.Nat.{◌-◌}
+use Rattle.whole.proofs.Laws.{begun, turned, ended}
+use Rattle.judge.proofs.chains.cell_sound.Goals as goal
+
+pub loop-n-init : goal.loop-n-init
+loop-n-init c = begun
+
+pub loop-n-preserved : goal.loop-n-preserved
+loop-n-preserved c = turned c.loop-n.invariant c.loop-n-test.true c.chain_at-ok.ensures
+
+pub returns : goal.returns
+returns c = ended c.loop-n.invariant c.loop-n-test.false

@@ -1,0 +1,13 @@
+-- `judge::pending::pending_sound` meets its contract: an unfinished entry is tried.
+-- Assumes nothing.
+use Rattle.whole.specs.Whole.{pending_sound}
+use Rattle.judge.proofs.pending.pending_sound.Goals as goal
+
+pub returns-then-not-unfinished : goal.returns-then-not-unfinished
+unfolding pending_sound
+returns-then-not-unfinished c = rw (← c.unfinished.ensures, c.if-not-unfinished.true)
+
+pub returns : goal.returns
+unfolding pending_sound
+returns c = let b = c.before.before.before in
+    rw (← b.before.unfinished.ensures, b.if1.false, ← c.number-x.ensures, c.differ.ensures, c.fits2.ensures)

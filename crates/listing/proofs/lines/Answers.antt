@@ -1,0 +1,110 @@
+-- `listing::lines` meets its contract: after i steps the state is that of the run, and their lines are written or counted.
+use mathlib.Core.Path.{◌≡◌, refl, sym, ap, ap₂, ◌∙◌}
+use mathlib.Core.Bool.{true}
+use Prim.Native.Nat.{◌+◌, ◌*◌, ◌-◌, ◌≤◌}
+use native.Mathlib.Omega.{arith}
+use lib.ListN.{length}
+use Rattle.chain.specs.Chain.{chains}
+use Rattle.group.specs.State.{state_of}
+use Rattle.tables.specs.Table.{at, put}
+use Rattle.whole.specs.Whole.{whole}
+use Rattle.score.specs.Steps.{Stepped, step_of}
+use Rattle.runfile.specs.File.{fields_sound}
+use Rattle.runfile.specs.Parts.{taken_of, step_in}
+use Rattle.listing.specs.Going.{state_after, steps_to}
+use Rattle.listing.proofs.Going.{state_in, gone_none, gone_size, taken_is, taken_never, is_there, still_whole, place_low, all_shown, line_fits, gone_next, ready, stepped}
+use Rattle.listing.proofs.lines.Goals as goal
+
+-- ---- what is known in a turn: that its step is there, which one it is, and that the state is whole
+
+there :
+    (c : goal.In-loop-i) → 8 * c.loop-i.i + 8 ≤ length c.args.part.now
+there c =
+    let z = c.before.before.before.before.before.before.before in
+    is_there _ _ _ _ _ _ z.requires.0 z.requires.1 z.requires.2 _ _ _ _ c.loop-i.invariant c.loop-i-test.true
+
+taken : (c : goal.In-Step) → c.x-1.given.0.0 ≡ step_in c.args.part.now c.loop-i.i
+taken c = taken_is _ _ (there c.before.before.before.before) _ (sym (ap taken_of c.x-1.given.1) ∙ c.step_at.ensures)
+
+judged : (c : goal.In-Step) → fields_sound c.x-1.given.0.0 ≡ true
+judged c =
+    let l = c.before.before.before.before in
+    rw (taken c) (l.before.before.before.before.before.before.before.requires.0.fields _ l.loop-test.true)
+
+wholly :
+    (c : goal.In-loop-i)
+    → let l = c.loop-i in
+    whole (state_in c.args.g l.counters l.slots l.flight l.lens l.versions l.writes l.reads) ≡ true
+wholly c =
+    let z = c.before.before.before.before.before.before.before in
+    still_whole _ _ _ _ _ _ z.requires.0 z.requires.1 z.requires.2 _ _ _ _ c.loop-i.invariant c.loop-i-test.true
+
+pub loop-i-init : goal.loop-i-init
+loop-i-init c = gone_none _ _ _ _ _ _
+
+pub shape_of-out-in_default : goal.shape_of-out-in_default
+shape_of-out-in_default c = gone_size _ _ _ _ _ _ _ _ _ _ c.loop-i.invariant
+
+pub returns-in_default : goal.returns-in_default
+returns-in_default c =
+    let l = c.before.before.before in
+    taken_never _ _ (there l) (sym (ap taken_of c.enum_told-1.given.1) ∙ c.step_at.ensures)
+
+pub act-turn-requires : goal.act-turn-requires
+unfolding at
+act-turn-requires c = ready c.args.g _ _ _ _ _ _ _ (wholly c.before.before.before.before.before.before.before.before.before.before.before.before.before.before) _ _ refl c.place_of-t.ensures.1
+
+-- what the step comes to, with the slot and the counters put back
+answered :
+    (c : goal.After-act-turn)
+    → let a = c.args in
+    let l = c.loop-i in
+    c.act-turn.result.answer
+    ≡ (step_of (state_after (state_of a.g a.flight.now (chains a.lens.now a.versions.now) a.writes.now a.reads.now) (steps_to a.part.now l.i))
+    (step_in a.part.now l.i)).answer
+unfolding at
+answered c =
+    let l = c.before.before.before.before.before.before.before.before.before.before.before.before.before.before.before in
+    ap (λ (o : Stepped). o.answer)
+    (stepped l.before.before.before.before.before.before.before.args.g _ _ _ _ _ _ _ (wholly l) _ _ refl _ (judged c.before.before.before.before.before.before.before.before.before.before.before) c.place_of-t.ensures.0 _ c.place-n.ensures _
+    c.counters_at-c.ensures _ _ _ _ _ _ c.act-turn.ensures _ refl _ refl
+    ∙ ap₂ step_of l.before.loop.invariant.state (taken c.before.before.before.before.before.before.before.before.before.before.before))
+
+pub narrow-requires : goal.narrow-requires
+narrow-requires c = omega (arith, c.loop-i-test.true, c.requires.0.few)
+
+pub put_line-at-requires : goal.put_line-at-requires
+put_line-at-requires c =
+    let d = c.before.before.before.before.before in
+    let l = d.before.before.before.before.before.before.before.before.before.before.before.before.before.before.before in
+    let z = l.before.before.before.before.before.before.before in
+    let n : c.narrow.result ≡ l.before.loop.i = c.narrow.ensures in (
+      place_low _ _ _ _ _ _ z.requires.0 z.requires.1 z.requires.2 _ _ _ _ l.before.loop.invariant,
+      rw n (line_fits _ _ _ _ _ _ z.requires.0 z.requires.1 z.requires.2 _ _ _ _ l.before.loop.invariant l.loop-test.true _ (answered d)),
+    )
+
+pub overflow_add-i : goal.overflow_add-i
+overflow_add-i c = omega arith
+
+pub loop-i-smaller : goal.loop-i-smaller
+loop-i-smaller c = omega (arith, c.loop-i-test.true)
+
+pub loop-i-preserved : goal.loop-i-preserved
+unfolding at put
+loop-i-preserved c =
+    let d = c.before.before.before.before.before.before.before.before in
+    let l = d.before.before.before.before.before.before.before.before.before.before.before.before.before.before.before in
+    let z = l.before.before.before.before.before.before.before in
+    let n : c.narrow.result ≡ l.before.loop.i = c.narrow.ensures in
+    gone_next _ _ _ _ _ _ z.requires.0 z.requires.1 z.requires.2 _ _ _ _ l.before.loop.invariant l.loop-test.true _
+    (stepped z.args.g _ _ _ _ _ _ _ (wholly l) _ _ refl _ (judged d.before.before.before.before.before.before.before.before.before.before.before) d.before.before.before.before.before.before.before.before.before.before.place_of.ensures.0 _ d.before.before.before.before.before.before.before.before.place.ensures _
+    d.before.before.before.before.before.before.before.counters-at.ensures _ _ _ _ _ _ d.act.ensures _ refl _ c.put_counters-changed.ensures
+    ∙ ap₂ step_of l.before.loop.invariant.state (taken d.before.before.before.before.before.before.before.before.before.before.before)) _ _ (rw n at c.put_line-at.ensures)
+
+pub shape_of-out : goal.shape_of-out
+shape_of-out c = gone_size _ _ _ _ _ _ _ _ _ _ c.loop-i.invariant
+
+pub returns : goal.returns
+returns c =
+    let z = c.before.before.before.before.before.before.before in
+    all_shown _ _ _ _ _ _ z.requires.0 z.requires.1 z.requires.2 _ _ _ _ c.loop-i.invariant c.loop-i-test.false

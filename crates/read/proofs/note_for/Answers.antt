@@ -1,0 +1,8 @@
+-- `read::note_for` meets its contract, by what the two lookups ensure.
+-- Assumes nothing.
+use Rattle.read.specs.Read.{note_for}
+use Rattle.read.proofs.note_for.Goals as goal
+
+pub returns : goal.returns
+unfolding note_for
+returns c = rw (c.before.value_of_lem.ensures, c.newest-x.ensures, c.stale-stale.ensures)

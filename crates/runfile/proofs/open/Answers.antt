@@ -1,0 +1,34 @@
+-- `runfile::open` meets its contract: each way out is a law, from how the sections before it were read.
+-- Assumes nothing.
+use Rattle.runfile.proofs.Opening.{opened_faulty, open_steps, open_over, open_sound}
+use Rattle.runfile.proofs.open.Goals as goal
+
+pub returns-then-front-gt0 : goal.returns-then-front-gt0
+returns-then-front-gt0 c = opened_faulty _ _ _ c.refused.ensures (c.front_of-front.ensures.faulty c.if-front-gt0.true)
+
+pub returns-then-fault-gt0 : goal.returns-then-fault-gt0
+returns-then-fault-gt0 c =
+    let k = c.before.before in
+    let w = k.before.before.before.before in
+    let j = w.before.before in
+    let f = j.before.before.front_of.ensures in
+    opened_faulty _ _ _ c.refused-then-fault-gt0.ensures (open_steps _ _ _ f j.if1.false _ _ _ _ w.wide.ensures k.before.before.before.wide2.ensures
+    k.before.wide16.ensures k.before.before.tail.ensures.bytes _ k.steps-fault.ensures c.if-fault-gt0.true)
+
+pub returns-then-count-part : goal.returns-then-count-part
+returns-then-count-part c =
+    let k = c.before.before.before in
+    let w = k.before.before.before.before in
+    let j = w.before.before in
+    let f = j.before.before.front_of.ensures in
+    opened_faulty _ _ _ c.refused-then-count-part.ensures (open_over _ _ _ f j.if1.false _ _ _ _ w.wide.ensures k.before.before.before.wide2.ensures
+    k.before.wide16.ensures k.before.before.tail.ensures.bytes _ k.steps-fault.ensures c.if-fault-gt0.false c.if-count-part.true)
+
+pub returns : goal.returns
+returns c =
+    let k = c.before.before in
+    let w = k.before.before.before.before in
+    let j = w.before.before in
+    let f = j.before.before.front_of.ensures in
+    open_sound _ _ _ f j.if1.false _ _ _ _ w.wide.ensures k.before.before.before.wide2.ensures
+    k.before.wide16.ensures k.before.before.tail.ensures.bytes _ k.steps-fault.ensures c.if-fault-gt0.false c.if-count-part.false

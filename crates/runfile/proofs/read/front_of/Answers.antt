@@ -1,0 +1,71 @@
+-- `runfile::read::front_of` meets its contract: each way out is a law, from how the sections before it were read.
+-- Assumes nothing.
+use native.Mathlib.Omega.{arith}
+use Rattle.runfile.proofs.Opening.{none_left, nodes_faulty, counters_faulty, cell_count_faulty, cells_faulty, step_count_faulty, front_read, front_faulty, front_sound}
+use Rattle.runfile.proofs.read.front_of.Goals as goal
+
+pub returns-then-nodes-gt0 : goal.returns-then-nodes-gt0
+returns-then-nodes-gt0 c =
+    let k₁ = c.before in
+    front_faulty _ _ _ _ c.no_front.ensures k₁.if1.true (nodes_faulty _ _ (k₁.before.before.count_at.ensures.0.faulty k₁.if1.true))
+
+pub returns-then-row-gt0 : goal.returns-then-row-gt0
+returns-then-row-gt0 c =
+    let k₂ = c.before in
+    let k₁ = k₂.before.before.before in
+    let e₁ = k₁.before.before.count_at.ensures.0.sound (none_left k₁.if1.false) in
+    front_faulty _ _ _ _ c.no_front-then-row-gt0.ensures k₂.if2.true (counters_faulty _ _ e₁ _ (k₂.before.before.counters-in.ensures.0.faulty k₂.if2.true))
+
+pub returns-then-cells-gt0 : goal.returns-then-cells-gt0
+returns-then-cells-gt0 c =
+    let k₃ = c.before in
+    let k₂ = k₃.before.before.before in
+    let k₁ = k₂.before.before.before in
+    let e₁ = k₁.before.before.count_at.ensures.0.sound (none_left k₁.if1.false) in
+    let e₂ = k₂.before.before.counters-in.ensures.0.sound (none_left k₂.if2.false) in
+    front_faulty _ _ _ _ c.no_front-then-cells-gt0.ensures k₃.if3.true
+    (cell_count_faulty _ _ e₁ _ e₂ _ (k₃.before.before.count-at2.ensures.0.faulty k₃.if3.true))
+
+pub returns-then-table-gt0 : goal.returns-then-table-gt0
+returns-then-table-gt0 c =
+    let k₄ = c.before in
+    let k₃ = k₄.before.before.before in
+    let k₂ = k₃.before.before.before in
+    let k₁ = k₂.before.before.before in
+    let e₁ = k₁.before.before.count_at.ensures.0.sound (none_left k₁.if1.false) in
+    let e₂ = k₂.before.before.counters-in.ensures.0.sound (none_left k₂.if2.false) in
+    let e₃ = k₃.before.before.count-at2.ensures.0.sound (none_left k₃.if3.false) in
+    front_faulty _ _ _ _ c.no_front-then-table-gt0.ensures k₄.if4.true
+    (cells_faulty _ _ e₁ _ e₂ _ e₃ _ (k₄.before.before.cells_in.ensures.0.faulty k₄.if4.true))
+
+pub returns-then-steps-gt0 : goal.returns-then-steps-gt0
+returns-then-steps-gt0 c =
+    let k₅ = c.before in
+    let k₄ = k₅.before.before.before in
+    let k₃ = k₄.before.before.before in
+    let k₂ = k₃.before.before.before in
+    let k₁ = k₂.before.before.before in
+    let e₁ = k₁.before.before.count_at.ensures.0.sound (none_left k₁.if1.false) in
+    let e₂ = k₂.before.before.counters-in.ensures.0.sound (none_left k₂.if2.false) in
+    let e₃ = k₃.before.before.count-at2.ensures.0.sound (none_left k₃.if3.false) in
+    let e₄ = k₄.before.before.cells_in.ensures.0.sound (none_left k₄.if4.false) in
+    front_faulty _ _ _ _ c.no_front-then-steps-gt0.ensures k₅.if5.true
+    (step_count_faulty _ _ e₁ _ e₂ _ e₃ _ e₄ _ (k₅.before.before.count-at3.ensures.0.faulty k₅.if5.true))
+
+pub overflow_cast-n-6 : goal.overflow_cast-n-6
+overflow_cast-n-6 c = omega (arith, c.count_at-nodes.ensures.1)
+
+pub returns : goal.returns
+returns c =
+    let k₅ = c.before.before in
+    let k₄ = k₅.before.before.before in
+    let k₃ = k₄.before.before.before in
+    let k₂ = k₃.before.before.before in
+    let k₁ = k₂.before.before.before in
+    let e₁ = k₁.before.before.count_at.ensures.0.sound (none_left k₁.if1.false) in
+    let e₂ = k₂.before.before.counters-in.ensures.0.sound (none_left k₂.if2.false) in
+    let e₃ = k₃.before.before.count-at2.ensures.0.sound (none_left k₃.if3.false) in
+    let e₄ = k₄.before.before.cells_in.ensures.0.sound (none_left k₄.if4.false) in
+    let e₅ = k₅.before.before.count-at3.ensures.0.sound (none_left k₅.if5.false) in
+    front_sound _ _ _ _ _ _ _ _ _ c.whole_front.ensures (front_read _ _ e₁ _ e₂ _ e₃ _ e₄ _ e₅) k₂.before.before.counters-in.ensures.1
+    (k₄.before.before.cells_in.ensures.1, k₄.before.before.cells_in.ensures.2) k₅.before.before.count-at3.ensures.1

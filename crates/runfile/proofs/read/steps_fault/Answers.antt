@@ -1,0 +1,41 @@
+-- `runfile::read::steps_fault` meets its contract.
+use mathlib.Core.Path.{sym, ap, ◌∙◌}
+use Prim.Native.Nat.{◌-◌}
+use native.Mathlib.Omega.{arith}
+use borrow.Author.Tests.{not-true, not-false}
+use Rattle.runfile.specs.Parts.{taken_of}
+use Rattle.runfile.proofs.Sections.{steps_start_lem, steps_turn, steps_cut, steps_bad, steps_end}
+use Rattle.runfile.proofs.read.steps_fault.Goals as goal
+
+pub loop-i-init : goal.loop-i-init
+loop-i-init c = (omega arith, steps_start_lem _ _)
+
+pub returns-in_default : goal.returns-in_default
+returns-in_default c =
+    let e = sym c.step_at.ensures ∙ ap taken_of c.enum_told-1.given.1 in
+    steps_cut _ _ _ c.loop-i.invariant.1 c.loop-i-test.true e
+
+pub returns-then-not-fields_sound : goal.returns-then-not-fields_sound
+returns-then-not-fields_sound c =
+    let k = c.before.before.before.before.before in
+    let e = sym k.step-at.ensures ∙ ap taken_of c.x-1.given.1 in
+    steps_bad _ _ _ k.before.before.loop.invariant.1 _ k.before.loop-test.true e
+    (sym c.fields_sound.ensures ∙ not-true c.fields_sound.result c.if-not-fields_sound.true)
+
+pub overflow_add-i : goal.overflow_add-i
+overflow_add-i c = omega arith
+
+pub loop-i-smaller : goal.loop-i-smaller
+loop-i-smaller c = omega arith
+
+pub loop-i-preserved : goal.loop-i-preserved
+loop-i-preserved c =
+    let k = c.before.before.before.before.before in
+    let e = sym k.step-at.ensures ∙ ap taken_of c.x-1.given.1 in (
+      omega arith,
+      steps_turn _ _ _ k.before.before.loop.invariant.1 _ k.before.loop-test.true e
+          (sym c.fields_sound.ensures ∙ not-false c.fields_sound.result c.if-not-fields_sound.false),
+    )
+
+pub returns : goal.returns
+returns c = steps_end _ _ _ c.loop-i.invariant.1 c.loop-i.invariant.0 c.loop-i-test.false

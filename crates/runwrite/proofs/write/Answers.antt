@@ -1,0 +1,26 @@
+-- `runwrite::write` meets its contract: a fault, an output that is too short, or the file's bytes.
+-- Assumes nothing.
+use native.Mathlib.Omega.{arith}
+use Rattle.runwrite.proofs.Writing.{counts_low, no_fault, write_faulty, write_short, write_whole}
+use Rattle.runwrite.proofs.write.Goals as goal
+
+pub returns-then-code-gt0 : goal.returns-then-code-gt0
+returns-then-code-gt0 c = write_faulty _ _ _ _ c.fault_of-code.ensures c.if-code-gt0.true
+
+pub returns-then-out-size : goal.returns-then-out-size
+returns-then-out-size c =
+    let k = c.before.before.before in
+    write_short _ _ _ _ k.before.fault-of.ensures k.if1.false (omega (arith, c.wide-2.ensures, c.wide.ensures))
+
+pub fill-requires : goal.fill-requires
+fill-requires c =
+    let k = c.before.before.before.before in
+    let a = k.before.before.before.before.args in
+    let p = counts_low a.head a.steps.now (no_fault a.head a.steps.now a.out.now _ k.before.fault-of.ensures k.if1.false) in
+    (p.0, p.1, p.2, omega (arith, c.wide-2.ensures, c.wide.ensures))
+
+pub returns : goal.returns
+returns c =
+    let w = c.before.before.before.before.before in
+    let k = w.before.before in
+    write_whole _ _ _ _ k.before.fault-of.ensures k.if1.false _ (omega (arith, w.wide2.ensures, w.before.wide.ensures)) c.fill.ensures

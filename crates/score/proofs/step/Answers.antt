@@ -1,0 +1,19 @@
+-- `score::step` meets its contract: refused where the state is not whole, else by what `step_whole` ensures.
+-- Assumes nothing.
+use mathlib.Core.Path.{sym, ◌∙◌}
+use borrow.Author.Tests.{not-true, not-false}
+use Rattle.score.proofs.WholeLaws.{not_whole, is_whole}
+use Rattle.score.proofs.step.Goals as goal
+
+pub returns-then-not-whole : goal.returns-then-not-whole
+returns-then-not-whole c = not_whole _ _ (sym c.whole.ensures ∙ not-true _ c.if-not-whole.true)
+
+pub step_whole-requires : goal.step_whole-requires
+step_whole-requires c =
+    let i = c.before.before.before.before.before in
+    sym i.before.whole.ensures ∙ not-false _ i.if1.false
+
+pub returns : goal.returns
+returns c =
+    let i = c.before.before.before.before.before.before in
+    is_whole _ _ (sym i.before.whole.ensures ∙ not-false _ i.if1.false) _ c.step_whole.ensures

@@ -1,0 +1,14 @@
+-- `whole::entries::committed_sound` meets its contract: a committed writer, or any other.
+-- Assumes nothing.
+use Rattle.whole.specs.Whole.{committed_sound}
+use Rattle.whole.proofs.entries.committed_sound.Goals as goal
+
+pub returns-then-stage_number-writer : goal.returns-then-stage_number-writer
+unfolding committed_sound
+returns-then-stage_number-writer c = let b = c.before.before in
+    rw (← b.before.before.stage-number.ensures, ← b.before.writer.ensures, b.if1.true, ← c.final_of.ensures) c.finals.ensures
+
+pub returns : goal.returns
+unfolding committed_sound
+returns c = let b = c.before in
+    rw (← b.before.before.stage-number.ensures, ← b.before.writer.ensures, b.if1.false) c.unapplying.ensures

@@ -1,0 +1,12 @@
+-- `whole::entries::unlearned` meets its contract: the entries of the nodes passed are tried.
+-- Assumes nothing.
+use Prim.Native.Nat.{◌-◌}
+use Rattle.whole.specs.Whole.{unlearned_at}
+use Rattle.whole.proofs.Laws.{SoFar}
+use Rattle.whole.proofs.entries.unlearned.Given as goal
+
+abbrev pub invariant-loop-n : goal.invariant-loop-n
+invariant-loop-n l = SoFar l.nodes (unlearned_at l.flight l.t) l.initial.n l.n
+
+abbrev pub decreases-loop-n : goal.decreases-loop-n
+decreases-loop-n l = l.nodes - l.n

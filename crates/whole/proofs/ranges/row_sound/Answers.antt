@@ -1,0 +1,13 @@
+-- `whole::ranges::row_sound` meets its contract: the entries of the nodes passed are tried.
+use Prim.Native.Nat.{◌-◌}
+use Rattle.whole.proofs.Laws.{begun, turned, ended}
+use Rattle.whole.proofs.ranges.row_sound.Goals as goal
+
+pub loop-n-init : goal.loop-n-init
+loop-n-init c = begun
+
+pub loop-n-preserved : goal.loop-n-preserved
+loop-n-preserved c = turned c.loop-n.invariant c.loop-n-test.true c.entry_sound-ok.ensures
+
+pub returns : goal.returns
+returns c = ended c.loop-n.invariant c.loop-n-test.false
