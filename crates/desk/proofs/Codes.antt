@@ -34,6 +34,7 @@ Codes [] = Unit {0}
 Codes (t ∷ ts) = Coded t.1 × Codes ts
 
 fails_coded : (ts : List (Bool × ℕ)) (c : ℕ) → Codes ts → Fails ts c → Coded c
+fails_coded [] c h x = elim x [ ]
 fails_coded (t ∷ ts) c h (here e) = h.0
 fails_coded (t ∷ ts) c h (later e f) = fails_coded ts c h.1 f
 

@@ -186,6 +186,7 @@ module _ (first : ℕ → ℕ) (s : State) (H : List Handed) (a : All first s H)
         goes : (r : Option ℕ) → First s.flight n r
             → Shape (set_tables (set_slot (set_counters s m (committed_at (counters_at s m) (applied s.flight n r))) t (slot_at s t))
             (apply_flight s.flight n r) (apply_chains s.group.cells s.group.masks s.flight s.chains s.writes n r) s.writes s.reads)
+        goes none x = elim x [ ]
         goes (some u) (first_of hu d l) = entered_shape _ u n finished 0 _ hu hn8 (omega arith) (omega (arith, d)) (omega arith) (λ l. refl) (λ l. refl)
 
   -- ---- counters alone

@@ -8,13 +8,14 @@ use Rattle.group.specs.State.{opened, in_stage}
 use Rattle.group.proofs.Turns.{in_stage_lem, not_in_stage, step_refused, step_cut, step_whole}
 use Rattle.ask.specs.Ask.{ask_tests}
 use Rattle.ask.proofs.ask.Goals as goal
+use Rattle.ask.proofs.ask.Goals.{Else-not-may_ask, Else-stage_number-ne-OPEN}
 
 pub returns-then-stage_number-ne-OPEN : goal.returns-then-stage_number-ne-OPEN
 unfolding ask_tests
 returns-then-stage_number-ne-OPEN c = step_refused _ _ _ _ _ _ _ (here (not_in_stage c.args.slot _ c.stage_number.ensures opened c.if-stage_number-ne-OPEN.true)) c.refused.ensures
 
 -- what the first test found
-open_is : (c : goal.Else-stage_number-ne-OPEN) → in_stage c.args.slot opened ≡ true
+open_is : (c : Else-stage_number-ne-OPEN) → in_stage c.args.slot opened ≡ true
 open_is c = in_stage_lem c.args.slot _ c.stage_number.ensures opened c.if-stage_number-ne-OPEN.false
 
 pub may_ask-requires : goal.may_ask-requires
@@ -25,11 +26,10 @@ may_ask-requires c =
 pub returns-then-not-may_ask : goal.returns-then-not-may_ask
 unfolding ask_tests
 returns-then-not-may_ask c =
-    let m = c.before.before in
-    step_refused _ _ _ _ _ _ _ (later (open_is m.before) (here (sym m.may-ask.ensures ∙ not-true _ c.if-not-may_ask.true))) c.refused-then-not-may_ask.ensures
+    step_refused _ _ _ _ _ _ _ (later (open_is c.before) (here (sym c.may_ask.ensures ∙ not-true _ c.if-not-may_ask.true))) c.refused-then-not-may_ask.ensures
 
 -- past the refusals, both tests hold
-passes : (c : goal.Else-not-may_ask) → let a = c.args in Passed (ask_tests a.slot a.masks.now a.writes.now a.t a.node a.cell)
+passes : (c : Else-not-may_ask) → let a = c.args in Passed (ask_tests a.slot a.masks.now a.writes.now a.t a.node a.cell)
 unfolding ask_tests
 passes c = (open_is c.before.before, (sym c.may_ask.ensures ∙ not-false _ c.if-not-may_ask.false, tt))
 

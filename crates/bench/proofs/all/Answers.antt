@@ -1,4 +1,5 @@
 -- `bench::all` is safe and ends: a turn fewer is left, and the lent slices keep their lengths.
+-- Assumes nothing.
 use mathlib.Core.Path.{refl}
 use native.Mathlib.Omega.{arith}
 use Rattle.bench.proofs.all.Goals as goal

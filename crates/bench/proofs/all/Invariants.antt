@@ -5,7 +5,7 @@ use lib.ListN.{length}
 use Rattle.bench.proofs.all.Given as goal
 
 abbrev pub invariant-loop-left : goal.invariant-loop-left
-invariant-loop-left l = (length l.out ≡ length l.initial.file) × (length l.initial.left ≡ length l.file)
+invariant-loop-left l = (length l.file ≡ length l.initial.file) × (length l.out ≡ length l.initial.out)
 
 abbrev pub decreases-loop-left : goal.decreases-loop-left
 decreases-loop-left l = l.left

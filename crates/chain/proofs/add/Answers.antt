@@ -8,16 +8,14 @@ use Rattle.tables.specs.Table.{put}
 use Rattle.chain.specs.Chain.{has_room}
 use Rattle.chain.proofs.Laws.{len_chain, added_no_room, added_room}
 use Rattle.chain.proofs.add.Goals as goal
-
--- `chain::add` meets its contract: no room and nothing changed, or one version and one length put.
--- Assumes nothing.
+use Rattle.chain.proofs.add.Goals.{Else-i-ge8}
 
 pub returns-then-i-ge8 : goal.returns-then-i-ge8
 unfolding has_room
 returns-then-i-ge8 c = let e = c.len-i.ensures in (sym (le-ltb _ _ (rw e at c.if-i-ge8.true)), sym (added_no_room _ _ _ _ _ (rw e at c.if-i-ge8.true)))
 
 -- where there is room, there is such a chain
-in_range : (c : goal.Else-i-ge8) → (c.args.cell < 32) × (c.args.node < 8)
+in_range : (c : Else-i-ge8) → (c.args.cell < 32) × (c.args.node < 8)
 in_range c =
     let a = c.args in
     len_chain a.lens.now a.cell a.node (omega (arith, c.len-i.ensures))

@@ -6,9 +6,6 @@ use Rattle.chain.specs.declared.Version.{Version}
 use Rattle.chain.proofs.Laws.{size_low, size_chain, latest_none, latest_some}
 use Rattle.chain.proofs.latest.Goals as goal
 
--- `chain::latest` meets its contract: a chain with no version, or its last one.
--- Assumes nothing.
-
 pub returns-then-len-eq0 : goal.returns-then-len-eq0
 returns-then-len-eq0 c = sym (latest_none _ _ _ _ (sym c.size-len.ensures ∙ c.if-len-eq0.true))
 

@@ -1,4 +1,5 @@
 -- `cilumbara::gather` meets its contract.
+-- Assumes nothing.
 use mathlib.Core.Path.{sym, ap, ◌∙◌}
 use Prim.Native.Nat.{◌-◌}
 use native.Mathlib.Omega.{arith}
@@ -29,10 +30,10 @@ loop-i-smaller c = omega arith
 
 pub loop-i-preserved : goal.loop-i-preserved
 loop-i-preserved c =
-    let l = c.before.before.before.before.before.before in (
+    (
       omega arith,
-      length-set l.loop.words l.loop.i c.pack.result ∙ l.loop.invariant.1,
-      words_next _ _ _ _ (omega arith) l.loop.invariant.2
+      length-set c.loop-i.words c.loop-i.i c.pack.result ∙ c.loop-i.invariant.1,
+      words_next _ _ _ _ (omega arith) c.loop-i.invariant.2
           (c.pack.ensures ∙ ap word_of (taken_is _ _ (omega arith) _ (sym (ap taken_of c.x-1.given.1) ∙ c.step_at.ensures))),
     )
 

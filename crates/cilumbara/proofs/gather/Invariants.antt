@@ -7,7 +7,7 @@ use Rattle.cilumbara.specs.Library.{words_to}
 use Rattle.cilumbara.proofs.gather.Given as goal
 
 abbrev pub invariant-loop-i : goal.invariant-loop-i
-invariant-loop-i l = (l.i ≤ l.count) × (length l.initial.i ≡ 4096) × (take l.i l.initial.i ≡ words_to l.part l.i)
+invariant-loop-i l = (l.i ≤ l.count) × (length l.words ≡ 4096) × (take l.i l.words ≡ words_to l.part l.i)
 
 abbrev pub decreases-loop-i : goal.decreases-loop-i
 decreases-loop-i l = l.count - l.i

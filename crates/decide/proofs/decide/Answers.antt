@@ -7,25 +7,26 @@ use Rattle.tables.proofs.Tests.{Passed, Fails, here, later, accepted, refused}
 use Rattle.group.specs.State.{in_stage, voting}
 use Rattle.decide.specs.Decide.{decide_tests, refused_by, lacking, decide_turn}
 use Rattle.decide.proofs.decide.Goals as goal
+use Rattle.decide.proofs.decide.Goals.{After-ready, Else-not-ready, Else-stage_number-ne-VOTING, Then-not-ready, Then-stage_number-ne-VOTING}
 
-voting_now : (c : goal.Else-stage_number-ne-VOTING) → in_stage c.args.slot voting ≡ true
+voting_now : (c : Else-stage_number-ne-VOTING) → in_stage c.args.slot voting ≡ true
 voting_now c = eq-eqb _ _ (sym c.stage_number.ensures ∙ c.if-stage_number-ne-VOTING.false)
 
-not_voting : (c : goal.Then-stage_number-ne-VOTING) → (let a = c.args in Fails (decide_tests a.slot a.nodes a.flight.now a.t) 19)
+not_voting : (c : Then-stage_number-ne-VOTING) → (let a = c.args in Fails (decide_tests a.slot a.nodes a.flight.now a.t) 19)
 unfolding decide_tests
 not_voting c = here (ne_eqb _ _ (λ e. c.if-stage_number-ne-VOTING.true (c.stage_number.ensures ∙ e)))
 
 -- what is asked of the votes
-asked : (c : goal.After-ready) → (let a = c.args in
+asked : (c : After-ready) → (let a = c.args in
     c.ready.result ≡ (refused_by a.nodes a.flight.now a.t || not (lacking a.nodes a.flight.now a.t)))
 unfolding refused_by lacking
 asked c = c.ready.ensures ∙ ap₂ (λ (a b : Bool). a || not b) c.tagged-no.ensures c.tagged-lacks.ensures
 
-not_ready : (c : goal.Then-not-ready) → (let a = c.args in Fails (decide_tests a.slot a.nodes a.flight.now a.t) 24)
+not_ready : (c : Then-not-ready) → (let a = c.args in Fails (decide_tests a.slot a.nodes a.flight.now a.t) 24)
 unfolding decide_tests
 not_ready c = later (voting_now c.before.before.before.before) (here (sym (asked c.before) ∙ not-true _ c.if-not-ready.true))
 
-ready_now : (c : goal.Else-not-ready) → (let a = c.args in Passed (decide_tests a.slot a.nodes a.flight.now a.t))
+ready_now : (c : Else-not-ready) → (let a = c.args in Passed (decide_tests a.slot a.nodes a.flight.now a.t))
 unfolding decide_tests
 ready_now c = (voting_now c.before.before.before.before, (sym (asked c.before) ∙ not-false _ c.if-not-ready.false, tt))
 
@@ -40,12 +41,10 @@ returns-then-cut c = rw (accepted _ (ready_now c.before.before), c.if-cut.true) 
 
 pub returns-then-no : goal.returns-then-no
 unfolding decide_turn refused_by
-returns-then-no c = let b = c.before.before in
-    let e = sym b.before.before.before.before.tagged.ensures ∙ c.if-no.true in
-    rw (accepted _ (ready_now b.before), b.if3.false, e, c.at_stage-slot.ensures)
+returns-then-no c = let e = sym c.tagged-no.ensures ∙ c.if-no.true in
+    rw (accepted _ (ready_now c.before), c.if-cut.false, e, c.at_stage-slot.ensures)
 
 pub returns : goal.returns
 unfolding decide_turn refused_by
-returns c = let b = c.before.before.before in
-    let e = sym b.before.before.before.before.tagged.ensures ∙ c.if-no.false in
-    rw (accepted _ (ready_now b.before), b.if3.false, e, c.at_stage-slot-2.ensures, c.final_number-k.ensures)
+returns c = let e = sym c.tagged-no.ensures ∙ c.if-no.false in
+    rw (accepted _ (ready_now c.before), c.if-cut.false, e, c.at_stage-slot-2.ensures, c.final_number-k.ensures)

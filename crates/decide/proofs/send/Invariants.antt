@@ -6,7 +6,7 @@ use Rattle.decide.specs.Decide.{sent_to}
 use Rattle.decide.proofs.send.Given as goal
 
 abbrev pub invariant-loop-n : goal.invariant-loop-n
-invariant-loop-n l = (l.n ≤ l.nodes) × (l.initial.n ≡ sent_to l.n l.cells l.masks l.initial.flight l.flight l.writes l.reads)
+invariant-loop-n l = (l.n ≤ l.nodes) × (l.flight ≡ sent_to l.n l.cells l.masks l.initial.flight l.writes l.reads l.t)
 
 abbrev pub decreases-loop-n : goal.decreases-loop-n
 decreases-loop-n l = l.nodes - l.n

@@ -5,28 +5,24 @@ use Rattle.desk.proofs.field_fault.Goals as goal
 
 pub returns-then-not-known : goal.returns-then-not-known
 returns-then-not-known c =
-    let i = c.before in
-    let u = i.before.before.before in
-    fault_16 _ _ _ _ u.before.known.ensures _ u.uses.ensures _ i.before.before.inside.ensures _ i.before.inside2.ensures _ i.inside3.ensures
+    let u = c.before.before.before in
+    fault_16 _ _ _ _ u.before.known.ensures _ u.uses.ensures _ c.inside-node.ensures _ c.inside-slot.ensures _ c.inside-cell.ensures
     c.if-not-known.true
 
 pub returns-then-not-node : goal.returns-then-not-node
 returns-then-not-node c =
-    let i = c.before.before in
-    let u = i.before.before.before in
-    fault_17 _ _ _ _ u.before.known.ensures _ u.uses.ensures _ i.before.before.inside.ensures _ i.before.inside2.ensures _ i.inside3.ensures
+    let u = c.before.before.before in
+    fault_17 _ _ _ _ u.before.known.ensures _ u.uses.ensures _ c.inside-node.ensures _ c.inside-slot.ensures _ c.inside-cell.ensures
     c.if-not-known.false c.if-not-node.true
 
 pub returns-then-not-slot-cell : goal.returns-then-not-slot-cell
 returns-then-not-slot-cell c =
-    let i = c.before.before.before in
-    let u = i.before.before.before in
-    fault_18 _ _ _ _ u.before.known.ensures _ u.uses.ensures _ i.before.before.inside.ensures _ i.before.inside2.ensures _ i.inside3.ensures
+    let u = c.before.before.before in
+    fault_18 _ _ _ _ u.before.known.ensures _ u.uses.ensures _ c.inside-node.ensures _ c.inside-slot.ensures _ c.inside-cell.ensures
     c.if-not-known.false c.if-not-node.false c.if-not-slot-cell.true
 
 pub returns : goal.returns
 returns c =
-    let i = c.before.before.before in
-    let u = i.before.before.before in
-    no_fault _ _ _ _ u.before.known.ensures _ u.uses.ensures _ i.before.before.inside.ensures _ i.before.inside2.ensures _ i.inside3.ensures
+    let u = c.before.before.before in
+    no_fault _ _ _ _ u.before.known.ensures _ u.uses.ensures _ c.inside-node.ensures _ c.inside-slot.ensures _ c.inside-cell.ensures
     c.if-not-known.false c.if-not-node.false c.if-not-slot-cell.false

@@ -6,5 +6,4 @@ use Rattle.fresh.proofs.fresh.Goals as goal
 pub returns : goal.returns
 unfolding fresh
 returns c =
-    let v = c.before.before.before.before.before.before in
-    rw (v.before.before.lens.ensures, v.versions.ensures, c.counters-counters.ensures, c.slots-slots.ensures)
+    rw (c.lens.ensures, c.versions.ensures, c.counters-counters.ensures, c.slots-slots.ensures)

@@ -6,8 +6,9 @@ use borrow.Author.Tests.{not-true, not-false}
 use Rattle.whole.specs.Whole.{counts_sound, transaction_sound, whole}
 use Rattle.whole.proofs.Laws.{counts_in}
 use Rattle.judge.proofs.whole.Goals as goal
+use Rattle.judge.proofs.whole.Goals.{Else-not-counts_sound}
 
-counted : (c : goal.Else-not-counts_sound) → counts_sound c.args.g.nodes c.args.g.cells ≡ true
+counted : (c : Else-not-counts_sound) → counts_sound c.args.g.nodes c.args.g.cells ≡ true
 counted c = sym c.counts_sound.ensures ∙ not-false _ c.if-not-counts_sound.false
 
 pub returns-then-not-counts_sound : goal.returns-then-not-counts_sound
@@ -29,6 +30,5 @@ nodes_sound-requires c = counts_in _ _ (counted c.before.before.before.before.be
 pub returns : goal.returns
 unfolding whole transaction_sound
 returns c =
-    let t = c.before.before.before.before in
-    let m = t.before.before.before.before.before in
-    rw (c.nodes_sound.ensures, c.chains_sound.ensures, t.transactions-sound.ensures, t.before.before.notes-sound2.ensures, t.before.before.before.notes-sound.ensures, t.before.before.before.before.flight-sound.ensures, m.masks-sound.ensures, counted m.before.before.before.before)
+    let m = c.before.before.before.before.before in
+    rw (c.nodes_sound.ensures, c.chains_sound.ensures, c.transactions_sound.ensures, c.notes_sound-2.ensures, c.notes_sound.ensures, c.flight_sound.ensures, m.masks-sound.ensures, counted m.before.before.before.before)

@@ -5,17 +5,14 @@ use Rattle.life.proofs.abandon.Goals as goal
 
 pub returns-then-not-running : goal.returns-then-not-running
 returns-then-not-running c =
-    let g = c.before.before in
-    abandon_refused _ _ _ _ _ g.before.stage-number.ensures _ g.running.ensures c.if-not-running.true c.refused.ensures
+    abandon_refused _ _ _ _ _ c.stage_number-stage.ensures _ c.running.ensures c.if-not-running.true c.refused.ensures
 
 pub returns-then-cut : goal.returns-then-cut
 returns-then-cut c =
-    let i = c.before.before in
-    let g = i.before in
-    abandon_cut _ _ _ _ _ g.before.stage-number.ensures _ g.running.ensures i.if1.false c.if-cut.true c.cut_still.ensures
+    let g = c.before in
+    abandon_cut _ _ _ _ _ g.before.stage-number.ensures _ g.running.ensures c.if-not-running.false c.if-cut.true c.cut_still.ensures
 
 pub returns : goal.returns
 returns c =
-    let i = c.before.before in
-    let g = i.before in
-    abandon_whole _ _ _ _ _ g.before.stage-number.ensures _ g.running.ensures i.if1.false c.if-cut.false c.aborted.ensures
+    let g = c.before in
+    abandon_whole _ _ _ _ _ g.before.stage-number.ensures _ g.running.ensures c.if-not-running.false c.if-cut.false c.aborted.ensures

@@ -8,18 +8,15 @@ returns-then-stage-ne-UNUSED c = begin_used _ _ _ _ _ _ _ _ c.stage_number-stage
 
 pub returns-then-value-gt1 : goal.returns-then-value-gt1
 returns-then-value-gt1 c =
-    let i = c.before.before in
-    begin_valued _ _ _ _ _ _ _ _ i.before.stage-number.ensures i.if1.false c.if-value-gt1.true c.refused-then-value-gt1.ensures
+    begin_valued _ _ _ _ _ _ _ _ c.stage_number-stage.ensures c.if-stage-ne-UNUSED.false c.if-value-gt1.true c.refused-then-value-gt1.ensures
 
 pub returns-then-cut : goal.returns-then-cut
 returns-then-cut c =
-    let i = c.before.before.before in
-    begin_cut _ _ _ _ _ _ _ _ i.before.stage-number.ensures i.if1.false c.if-value-gt1.false c.if-cut.true c.cut_still.ensures
+    begin_cut _ _ _ _ _ _ _ _ c.stage_number-stage.ensures c.if-stage-ne-UNUSED.false c.if-value-gt1.false c.if-cut.true c.cut_still.ensures
 
 pub returns : goal.returns
 returns c =
-    let w = c.before.before.before.before in
-    let o = w.before.before in
+    let o = c.before.before in
     let i = o.before.before in
     begin_whole _ _ _ _ _ _ _ _ i.before.stage-number.ensures i.if1.false o.before.if2.false o.if3.false _ c.opened-slot.ensures
-    c.done.ensures _ w.clear.ensures _ c.clear-2.ensures
+    c.done.ensures _ c.clear.ensures _ c.clear-2.ensures

@@ -7,7 +7,7 @@ use Rattle.tables.specs.Loop.{each}
 use Rattle.life.proofs.clear.Given as goal
 
 abbrev pub invariant-loop-cell : goal.invariant-loop-cell
-invariant-loop-cell l = (l.cell ≤ 32) × (l.initial.cell ≡ each 0 l.cell (pair 32 l.table) (λ c e. 0) l.initial.table)
+invariant-loop-cell l = (l.cell ≤ 32) × (l.table ≡ each 0 l.cell (pair 32 l.t) (λ c e. 0) l.initial.table)
 
 abbrev pub decreases-loop-cell : goal.decreases-loop-cell
 decreases-loop-cell l = 32 - l.cell

@@ -8,10 +8,8 @@ returns-then-stage-ne-VOTING c = give_up_refused _ _ _ _ _ c.stage_number-stage.
 
 pub returns-then-cut : goal.returns-then-cut
 returns-then-cut c =
-    let i = c.before.before in
-    give_up_cut _ _ _ _ _ i.before.stage-number.ensures i.if1.false c.if-cut.true c.cut_still.ensures
+    give_up_cut _ _ _ _ _ c.stage_number-stage.ensures c.if-stage-ne-VOTING.false c.if-cut.true c.cut_still.ensures
 
 pub returns : goal.returns
 returns c =
-    let i = c.before.before in
-    give_up_whole _ _ _ _ _ i.before.stage-number.ensures i.if1.false c.if-cut.false c.aborted.ensures
+    give_up_whole _ _ _ _ _ c.stage_number-stage.ensures c.if-stage-ne-VOTING.false c.if-cut.false c.aborted.ensures

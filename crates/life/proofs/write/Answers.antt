@@ -8,20 +8,17 @@ returns-then-stage-ne-OPEN c = write_not_open _ _ _ c.args.x _ _ _ c.stage_numbe
 
 pub returns-then-not-update : goal.returns-then-not-update
 returns-then-not-update c =
-    let i = c.before.before in
-    let x = i.before.before.args.x in
-    write_no_update _ _ _ x _ _ _ i.before.stage-number.ensures i.if1.false c.if-not-update.true c.refused-then-not-update.ensures
+    let x = c.args.x in
+    write_no_update _ _ _ x _ _ _ c.stage_number-stage.ensures c.if-stage-ne-OPEN.false c.if-not-update.true c.refused-then-not-update.ensures
 
 pub returns-then-cut : goal.returns-then-cut
 returns-then-cut c =
-    let i = c.before.before.before in
-    let x = i.before.before.args.x in
-    write_cut _ _ _ x _ _ _ i.before.stage-number.ensures i.if1.false c.if-not-update.false c.if-cut.true c.cut_still.ensures
+    let x = c.args.x in
+    write_cut _ _ _ x _ _ _ c.stage_number-stage.ensures c.if-stage-ne-OPEN.false c.if-not-update.false c.if-cut.true c.cut_still.ensures
 
 pub returns : goal.returns
 returns c =
-    let o = c.before.before.before.before in
-    let i = o.before.before in
+    let i = c.before.before in
     let x = i.before.before.args.x in
-    write_whole _ _ _ x _ _ _ i.before.stage-number.ensures i.if1.false o.before.if2.false o.if3.false c.done.ensures _
+    write_whole _ _ _ x _ _ _ i.before.stage-number.ensures i.if1.false c.if-not-update.false c.if-cut.false c.done.ensures _
     c.set_note.ensures

@@ -1,4 +1,5 @@
 -- `listing::lines` meets its contract: after i steps the state is that of the run, and their lines are written or counted.
+-- Assumes nothing.
 use mathlib.Core.Path.{◌≡◌, refl, sym, ap, ap₂, ◌∙◌}
 use mathlib.Core.Bool.{true}
 use Prim.Native.Nat.{◌+◌, ◌*◌, ◌-◌, ◌≤◌}
@@ -14,30 +15,28 @@ use Rattle.runfile.specs.Parts.{taken_of, step_in}
 use Rattle.listing.specs.Going.{state_after, steps_to}
 use Rattle.listing.proofs.Going.{state_in, gone_none, gone_size, taken_is, taken_never, is_there, still_whole, place_low, all_shown, line_fits, gone_next, ready, stepped}
 use Rattle.listing.proofs.lines.Goals as goal
+use Rattle.listing.proofs.lines.Goals.{After-act-turn, In-Step, In-loop-i}
 
 -- ---- what is known in a turn: that its step is there, which one it is, and that the state is whole
 
 there :
-    (c : goal.In-loop-i) → 8 * c.loop-i.i + 8 ≤ length c.args.part.now
+    (c : In-loop-i) → 8 * c.loop-i.i + 8 ≤ length c.args.part.now
 there c =
-    let z = c.before.before.before.before.before.before.before in
-    is_there _ _ _ _ _ _ z.requires.0 z.requires.1 z.requires.2 _ _ _ _ c.loop-i.invariant c.loop-i-test.true
+    is_there _ _ _ _ _ _ c.requires.0 c.requires.1 c.requires.2 _ _ _ _ c.loop-i.invariant c.loop-i-test.true
 
-taken : (c : goal.In-Step) → c.x-1.given.0.0 ≡ step_in c.args.part.now c.loop-i.i
+taken : (c : In-Step) → c.x-1.given.0.0 ≡ step_in c.args.part.now c.loop-i.i
 taken c = taken_is _ _ (there c.before.before.before.before) _ (sym (ap taken_of c.x-1.given.1) ∙ c.step_at.ensures)
 
-judged : (c : goal.In-Step) → fields_sound c.x-1.given.0.0 ≡ true
+judged : (c : In-Step) → fields_sound c.x-1.given.0.0 ≡ true
 judged c =
-    let l = c.before.before.before.before in
-    rw (taken c) (l.before.before.before.before.before.before.before.requires.0.fields _ l.loop-test.true)
+    rw (taken c) (c.requires.0.fields _ c.loop-i-test.true)
 
 wholly :
-    (c : goal.In-loop-i)
+    (c : In-loop-i)
     → let l = c.loop-i in
     whole (state_in c.args.g l.counters l.slots l.flight l.lens l.versions l.writes l.reads) ≡ true
 wholly c =
-    let z = c.before.before.before.before.before.before.before in
-    still_whole _ _ _ _ _ _ z.requires.0 z.requires.1 z.requires.2 _ _ _ _ c.loop-i.invariant c.loop-i-test.true
+    still_whole _ _ _ _ _ _ c.requires.0 c.requires.1 c.requires.2 _ _ _ _ c.loop-i.invariant c.loop-i-test.true
 
 pub loop-i-init : goal.loop-i-init
 loop-i-init c = gone_none _ _ _ _ _ _
@@ -47,7 +46,6 @@ shape_of-out-in_default c = gone_size _ _ _ _ _ _ _ _ _ _ c.loop-i.invariant
 
 pub returns-in_default : goal.returns-in_default
 returns-in_default c =
-    let l = c.before.before.before in
     taken_never _ _ (there l) (sym (ap taken_of c.enum_told-1.given.1) ∙ c.step_at.ensures)
 
 pub act-turn-requires : goal.act-turn-requires
@@ -56,27 +54,25 @@ act-turn-requires c = ready c.args.g _ _ _ _ _ _ _ (wholly c.before.before.befor
 
 -- what the step comes to, with the slot and the counters put back
 answered :
-    (c : goal.After-act-turn)
+    (c : After-act-turn)
     → let a = c.args in
     let l = c.loop-i in
     c.act-turn.result.answer
-    ≡ (step_of (state_after (state_of a.g a.flight.now (chains a.lens.now a.versions.now) a.writes.now a.reads.now) (steps_to a.part.now l.i))
-    (step_in a.part.now l.i)).answer
+    ≡ (step_of (state_after (state_of a.g a.flight.now (chains a.lens.now a.versions.now) a.writes.now a.reads.now) (steps_to a.part.now c.i))
+    (step_in a.part.now c.i)).answer
 unfolding at
 answered c =
-    let l = c.before.before.before.before.before.before.before.before.before.before.before.before.before.before.before in
     ap (λ (o : Stepped). o.answer)
-    (stepped l.before.before.before.before.before.before.before.args.g _ _ _ _ _ _ _ (wholly l) _ _ refl _ (judged c.before.before.before.before.before.before.before.before.before.before.before) c.place_of-t.ensures.0 _ c.place-n.ensures _
+    (stepped c.args.g _ _ _ _ _ _ _ (wholly l) _ _ refl _ (judged c.before.before.before.before.before.before.before.before.before.before.before) c.place_of-t.ensures.0 _ c.place-n.ensures _
     c.counters_at-c.ensures _ _ _ _ _ _ c.act-turn.ensures _ refl _ refl
-    ∙ ap₂ step_of l.before.loop.invariant.state (taken c.before.before.before.before.before.before.before.before.before.before.before))
+    ∙ ap₂ step_of c.loop-i.invariant.state (taken c.before.before.before.before.before.before.before.before.before.before.before))
 
 pub narrow-requires : goal.narrow-requires
 narrow-requires c = omega (arith, c.loop-i-test.true, c.requires.0.few)
 
 pub put_line-at-requires : goal.put_line-at-requires
 put_line-at-requires c =
-    let d = c.before.before.before.before.before in
-    let l = d.before.before.before.before.before.before.before.before.before.before.before.before.before.before.before in
+    let l = c.before.before.before.before.before.before.before.before.before.before.before.before.before.before.before in
     let z = l.before.before.before.before.before.before.before in
     let n : c.narrow.result ≡ l.before.loop.i = c.narrow.ensures in (
       place_low _ _ _ _ _ _ z.requires.0 z.requires.1 z.requires.2 _ _ _ _ l.before.loop.invariant,
@@ -92,19 +88,17 @@ loop-i-smaller c = omega (arith, c.loop-i-test.true)
 pub loop-i-preserved : goal.loop-i-preserved
 unfolding at put
 loop-i-preserved c =
-    let d = c.before.before.before.before.before.before.before.before in
-    let l = d.before.before.before.before.before.before.before.before.before.before.before.before.before.before.before in
+    let l = c.before.before.before.before.before.before.before.before.before.before.before.before.before.before.before in
     let z = l.before.before.before.before.before.before.before in
     let n : c.narrow.result ≡ l.before.loop.i = c.narrow.ensures in
     gone_next _ _ _ _ _ _ z.requires.0 z.requires.1 z.requires.2 _ _ _ _ l.before.loop.invariant l.loop-test.true _
-    (stepped z.args.g _ _ _ _ _ _ _ (wholly l) _ _ refl _ (judged d.before.before.before.before.before.before.before.before.before.before.before) d.before.before.before.before.before.before.before.before.before.before.place_of.ensures.0 _ d.before.before.before.before.before.before.before.before.place.ensures _
-    d.before.before.before.before.before.before.before.counters-at.ensures _ _ _ _ _ _ d.act.ensures _ refl _ c.put_counters-changed.ensures
-    ∙ ap₂ step_of l.before.loop.invariant.state (taken d.before.before.before.before.before.before.before.before.before.before.before)) _ _ (rw n at c.put_line-at.ensures)
+    (stepped z.args.g _ _ _ _ _ _ _ (wholly l) _ _ refl _ (judged c.before.before.before.before.before.before.before.before.before.before.before) c.place_of-t.ensures.0 _ c.place-n.ensures _
+    c.counters_at-c.ensures _ _ _ _ _ _ c.act-turn.ensures _ refl _ c.put_counters-changed.ensures
+    ∙ ap₂ step_of l.before.loop.invariant.state (taken c.before.before.before.before.before.before.before.before.before.before.before)) _ _ (rw n at c.put_line-at.ensures)
 
 pub shape_of-out : goal.shape_of-out
 shape_of-out c = gone_size _ _ _ _ _ _ _ _ _ _ c.loop-i.invariant
 
 pub returns : goal.returns
 returns c =
-    let z = c.before.before.before.before.before.before.before in
-    all_shown _ _ _ _ _ _ z.requires.0 z.requires.1 z.requires.2 _ _ _ _ c.loop-i.invariant c.loop-i-test.false
+    all_shown _ _ _ _ _ _ c.requires.0 c.requires.1 c.requires.2 _ _ _ _ c.loop-i.invariant c.loop-i-test.false

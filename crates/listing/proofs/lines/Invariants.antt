@@ -9,8 +9,8 @@ use Rattle.listing.proofs.lines.Given as goal
 
 abbrev pub invariant-loop-i : goal.invariant-loop-i
 invariant-loop-i l =
-    Gone (state_of l.g l.initial.flight (chains l.flight l.initial.lens) l.lens l.initial.versions) l.versions l.initial.writes l.initial.reads l.reads l.writes (state_in l.g l.at l.initial.at l.write l.masks l.initial.slots l.slots l.initial.counters) l.counters l.initial.i l.i
+    Gone (state_of l.g l.initial.flight (chains l.initial.lens l.initial.versions) l.initial.writes l.initial.reads) l.part l.count l.start l.write l.initial.out (state_in l.g l.counters l.slots l.flight l.lens l.versions l.writes l.reads) l.out l.at l.i
 
 abbrev pub decreases-loop-i : goal.decreases-loop-i
 decreases-loop-i l =
-    l.initial.writes - l.i
+    l.count - l.i

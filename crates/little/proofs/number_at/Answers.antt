@@ -1,4 +1,5 @@
 -- `little::number_at` meets its contract.
+-- Assumes nothing.
 use mathlib.Core.Path.{◌≡◌, sym, ap, ap₂, ◌∙◌}
 use mathlib.Core.Option.{some}
 use Prim.Native.Nat.{ℕ, ◌+◌, ◌*◌, ◌-◌, ◌≤◌, ◌<◌}
@@ -8,14 +9,15 @@ use lib.Dec.{lit<}
 use lib.ListN.{length}
 use Rattle.little.proofs.Laws.{fits_true, number_out, high_none, high_next, high_all, low_next, low_room}
 use Rattle.little.proofs.number_at.Goals as goal
+use Rattle.little.proofs.number_at.Goals.{After-wide, Then-fits}
 
 -- where the test passes
-inside : (c : goal.Then-fits) → let a = c.args in (a.k ≤ 4) × (a.at + a.k ≤ length a.s.now)
-inside c = fits_true _ _ _ (sym c.before.fits2.ensures ∙ c.if-fits.true)
+inside : (c : Then-fits) → let a = c.args in (a.k ≤ 4) × (a.at + a.k ≤ length a.s.now)
+inside c = fits_true _ _ _ (sym c.fits.ensures ∙ c.if-fits.true)
 
 -- before a turn there is room for one byte more
-small : (c : goal.After-wide) → c.loop-left.x < 16777216
-small c = let l = c.before.before.before in low_room _ _ _ c.loop-left-test.true (inside l.before).0 l.loop.invariant.2
+small : (c : After-wide) → c.loop-left.x < 16777216
+small c = low_room _ _ _ c.loop-left-test.true (inside c.before).0 c.loop-left.invariant.2
 
 pub loop-left-init : goal.loop-left-init
 loop-left-init c = let a = c.args in (omega arith, sym (high_none a.s.now a.at a.k), rw (sub_self a.k) (lit< tt))
@@ -34,11 +36,10 @@ overflow_add-x c = omega (arith, small c, c.wide.ensures)
 
 pub loop-left-preserved : goal.loop-left-preserved
 loop-left-preserved c =
-    let l = c.before.before.before in
-    let p : 0 < l.loop.left = omega arith in
-    let h = l.loop.invariant in (
+    let p : 0 < c.loop-left.left = omega arith in
+    let h = c.loop-left.invariant in (
       omega arith,
-      ap₂ (λ (b y : ℕ). b + 256 * y) c.wide.ensures.0 h.1 ∙ sym (high_next _ _ _ _ p h.0 (inside l.before).1),
+      ap₂ (λ (b y : ℕ). b + 256 * y) c.wide.ensures.0 h.1 ∙ sym (high_next _ _ _ _ p h.0 (inside c.before).1),
       low_next _ _ _ _ p h.0 c.wide.ensures.1 h.2,
     )
 
@@ -46,7 +47,7 @@ pub returns-after-loop-left : goal.returns-after-loop-left
 returns-after-loop-left c =
     let l = c.loop-left in
     let e : l.left ≡ 0 = omega arith in
-    ap some (rw e at l.invariant.1) ∙ sym (high_all _ _ _ (sym c.before.before.before.fits2.ensures ∙ c.if-fits.true))
+    ap some (rw e at l.invariant.1) ∙ sym (high_all _ _ _ (sym c.fits.ensures ∙ c.if-fits.true))
 
 pub returns-else-fits : goal.returns-else-fits
-returns-else-fits c = sym (number_out _ _ _ (sym c.before.fits2.ensures ∙ c.if-fits.false))
+returns-else-fits c = sym (number_out _ _ _ (sym c.fits.ensures ∙ c.if-fits.false))

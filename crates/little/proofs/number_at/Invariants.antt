@@ -6,7 +6,7 @@ use Rattle.little.proofs.Laws.{high}
 use Rattle.little.proofs.number_at.Given as goal
 
 abbrev pub invariant-loop-left : goal.invariant-loop-left
-invariant-loop-left l = (l.left ≤ l.k) × (l.initial.left ≡ high l.s l.at l.k l.left) × (l.initial.left < 256 ^ (l.k - l.left))
+invariant-loop-left l = (l.left ≤ l.k) × (l.x ≡ high l.s l.at l.k l.left) × (l.x < 256 ^ (l.k - l.left))
 
 abbrev pub decreases-loop-left : goal.decreases-loop-left
 decreases-loop-left l = l.left

@@ -1,17 +1,19 @@
 -- `little::store` meets its contract.
+-- Assumes nothing.
 use mathlib.Core.Path.{◌≡◌, refl, sym, ◌∙◌}
 use Prim.Native.Nat.{◌+◌, ◌-◌, ◌≤◌}
 use native.Mathlib.Omega.{arith}
 use lib.ListN.{length, length-set}
 use Rattle.little.proofs.Laws.{fits_true, stored_out, rest_none, rest_all, rest_next}
 use Rattle.little.proofs.store.Goals as goal
+use Rattle.little.proofs.store.Goals.{Then-fits}
 
 -- where the test passes
-inside : (c : goal.Then-fits) → let a = c.args in (a.k ≤ 4) × (a.at + a.k ≤ length a.out.now)
-inside c = fits_true _ _ _ (sym c.before.fits2.ensures ∙ c.if-fits.true)
+inside : (c : Then-fits) → let a = c.args in (a.k ≤ 4) × (a.at + a.k ≤ length a.out.now)
+inside c = fits_true _ _ _ (sym c.fits.ensures ∙ c.if-fits.true)
 
 pub loop-i-init : goal.loop-i-init
-loop-i-init c = (omega arith, refl, rest_all _ _ _ _ (sym c.before.fits2.ensures ∙ c.if-fits.true))
+loop-i-init c = (omega arith, refl, rest_all _ _ _ _ (sym c.fits.ensures ∙ c.if-fits.true))
 
 pub overflow_add-out : goal.overflow_add-out
 overflow_add-out c = omega (arith, inside c.before.before)
@@ -29,7 +31,7 @@ pub returns-after-loop-i : goal.returns-after-loop-i
 returns-after-loop-i c =
     let l = c.loop-i in
     let e : l.i ≡ c.args.k = omega arith in
-    (sym (sym c.before.before.before.fits2.ensures ∙ c.if-fits.true), sym (l.invariant.2 ∙ rw e (rest_none _ _ _ _)))
+    (sym (sym c.fits.ensures ∙ c.if-fits.true), sym (l.invariant.2 ∙ rw e (rest_none _ _ _ _)))
 
 pub returns-else-fits : goal.returns-else-fits
-returns-else-fits c = let e = sym c.before.fits2.ensures ∙ c.if-fits.false in (sym e, sym (stored_out _ _ _ _ e))
+returns-else-fits c = let e = sym c.fits.ensures ∙ c.if-fits.false in (sym e, sym (stored_out _ _ _ _ e))

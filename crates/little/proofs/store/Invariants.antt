@@ -8,7 +8,7 @@ use Rattle.little.proofs.Laws.{with_rest}
 use Rattle.little.proofs.store.Given as goal
 
 abbrev pub invariant-loop-i : goal.invariant-loop-i
-invariant-loop-i l = (l.i ≤ l.at) × (length l.high ≡ length l.initial.out) × (stored l.initial.out l.out l.at l.k ≡ with_rest l.high l.out l.at l.initial.i l.i)
+invariant-loop-i l = (l.i ≤ l.k) × (length l.out ≡ length l.initial.out) × (stored l.initial.out l.at l.k l.x ≡ with_rest l.out l.at l.k l.high l.i)
 
 abbrev pub decreases-loop-i : goal.decreases-loop-i
-decreases-loop-i l = l.at - l.i
+decreases-loop-i l = l.k - l.i

@@ -9,13 +9,14 @@ use Rattle.group.proofs.Turns.{step_refused, step_cut, step_whole, kept_refused,
 use Rattle.read.specs.Read.{return_tests, spoilt}
 use Rattle.read.proofs.Laws.{return_aborts, return_hands, reads_stay, reads_join}
 use Rattle.read.proofs.hand.Goals as goal
+use Rattle.read.proofs.hand.Goals.{After-spoilt, Else-not-in_stage}
 
 pub returns-then-not-in_stage : goal.returns-then-not-in_stage
 returns-then-not-in_stage c = let f = sym c.before.before.in_stage_lem.ensures ∙ not-true _ c.if-not-in_stage.true in
     (step_refused _ _ _ _ _ _ _ (here f) c.refused.ensures, kept_refused _ _ _ _ (here f))
 
 -- past the refusal, the stage is the one needed
-passes : (c : goal.Else-not-in_stage) → Passed (return_tests c.args.slot)
+passes : (c : Else-not-in_stage) → Passed (return_tests c.args.slot)
 passes c = (sym c.before.in_stage_lem.ensures ∙ not-false _ c.if-not-in_stage.false, tt)
 
 pub returns-then-cut : goal.returns-then-cut
@@ -25,7 +26,7 @@ returns-then-cut c = let e = c.note_of-v.ensures in
     (step_cut _ _ _ _ _ _ _ p k (c.cut_at.ensures ∙ rw e), kept_cut _ _ _ _ p k)
 
 -- the test of the code is that of the definition
-told : (c : goal.After-spoilt) → c.spoilt.result ≡ spoilt c.args.slot
+told : (c : After-spoilt) → c.spoilt.result ≡ spoilt c.args.slot
 told c = c.spoilt.ensures ∙ ap (λ (v : Note). c.args.slot.update && v.stale) c.note_of-v.ensures
 
 pub returns-then-spoilt : goal.returns-then-spoilt

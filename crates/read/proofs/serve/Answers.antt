@@ -8,12 +8,13 @@ use Rattle.group.proofs.Turns.{step_refused, step_cut, step_whole}
 use Rattle.read.specs.Read.{serve_tests, read_at, blocked}
 use Rattle.read.proofs.Laws.{serve_waits, serve_notes}
 use Rattle.read.proofs.serve.Goals as goal
+use Rattle.read.proofs.serve.Goals.{After-blocked, Else-not-in_stage}
 
 pub returns-then-not-in_stage : goal.returns-then-not-in_stage
 returns-then-not-in_stage c = step_refused _ _ _ _ _ _ _ (here (sym c.before.before.in_stage_lem.ensures ∙ not-true _ c.if-not-in_stage.true)) c.refused.ensures
 
 -- past the refusal, the stage is the one needed
-passes : (c : goal.Else-not-in_stage) → Passed (serve_tests c.args.slot)
+passes : (c : Else-not-in_stage) → Passed (serve_tests c.args.slot)
 passes c = (sym c.before.in_stage_lem.ensures ∙ not-false _ c.if-not-in_stage.false, tt)
 
 pub returns-then-cut : goal.returns-then-cut
@@ -25,7 +26,7 @@ pub blocked-requires : goal.blocked-requires
 blocked-requires c = let e = c.ask_of-a.ensures in rw e c.requires
 
 -- the test of the code is that of the definition
-told : (c : goal.After-blocked) → let x = c.args in
+told : (c : After-blocked) → let x = c.args in
     let a = ask_of x.slot.stage in
     c.blocked.result ≡ blocked x.flight.now x.writes.now a.node a.cell (read_at a x.holder)
 told c = c.blocked.ensures ∙ rw (c.read_at-s.ensures, c.ask_of-a.ensures)

@@ -15,6 +15,5 @@ returns-in_default c =
 
 pub returns : goal.returns
 returns c =
-    let k = c.before.before.before.before in
-    let e = sym k.before.before.before.read.ensures ∙ ap result_of k.before.value.given.1 in
+    let e = sym c.read.ensures ∙ ap result_of c.value-1.given.1 in
     step_in_lem _ _ _ (omega arith) (number_there _ _ _ _ e).0

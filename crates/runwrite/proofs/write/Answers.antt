@@ -9,18 +9,15 @@ returns-then-code-gt0 c = write_faulty _ _ _ _ c.fault_of-code.ensures c.if-code
 
 pub returns-then-out-size : goal.returns-then-out-size
 returns-then-out-size c =
-    let k = c.before.before.before in
-    write_short _ _ _ _ k.before.fault-of.ensures k.if1.false (omega (arith, c.wide-2.ensures, c.wide.ensures))
+    write_short _ _ _ _ c.fault_of-code.ensures c.if-code-gt0.false (omega (arith, c.wide-2.ensures, c.wide.ensures))
 
 pub fill-requires : goal.fill-requires
 fill-requires c =
-    let k = c.before.before.before.before in
-    let a = k.before.before.before.before.args in
-    let p = counts_low a.head a.steps.now (no_fault a.head a.steps.now a.out.now _ k.before.fault-of.ensures k.if1.false) in
+    let a = c.args in
+    let p = counts_low a.head a.steps.now (no_fault a.head a.steps.now a.out.now _ c.fault_of-code.ensures c.if-code-gt0.false) in
     (p.0, p.1, p.2, omega (arith, c.wide-2.ensures, c.wide.ensures))
 
 pub returns : goal.returns
 returns c =
-    let w = c.before.before.before.before.before in
-    let k = w.before.before in
-    write_whole _ _ _ _ k.before.fault-of.ensures k.if1.false _ (omega (arith, w.wide2.ensures, w.before.wide.ensures)) c.fill.ensures
+    let k = c.before.before in
+    write_whole _ _ _ _ k.before.fault-of.ensures k.if1.false _ (omega (arith, c.wide-2.ensures, c.wide.ensures)) c.fill.ensures

@@ -8,7 +8,7 @@ pub returns-then-k-eq3 : goal.returns-then-k-eq3
 returns-then-k-eq3 c = place_of_ask _ _ _ (sym c.whole-k.ensures ∙ c.if-k-eq3.true)
 
 pub returns-then-k-eq4 : goal.returns-then-k-eq4
-returns-then-k-eq4 c = let w = c.before.before in rw w.before.ask-of.ensures (place_of_serve _ _ _ (sym w.whole.ensures ∙ c.if-k-eq4.true))
+returns-then-k-eq4 c = rw c.ask_of-a.ensures (place_of_serve _ _ _ (sym c.whole-k.ensures ∙ c.if-k-eq4.true))
 
 pub returns-then-k-eq5 : goal.returns-then-k-eq5
 returns-then-k-eq5 c = place_of_return _ _ _ (sym c.whole-k.ensures ∙ c.if-k-eq5.true)

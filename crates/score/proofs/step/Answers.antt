@@ -10,10 +10,8 @@ returns-then-not-whole c = not_whole _ _ (sym c.whole.ensures ∙ not-true _ c.i
 
 pub step_whole-requires : goal.step_whole-requires
 step_whole-requires c =
-    let i = c.before.before.before.before.before in
-    sym i.before.whole.ensures ∙ not-false _ i.if1.false
+    sym c.whole.ensures ∙ not-false _ c.if-not-whole.false
 
 pub returns : goal.returns
 returns c =
-    let i = c.before.before.before.before.before.before in
-    is_whole _ _ (sym i.before.whole.ensures ∙ not-false _ i.if1.false) _ c.step_whole.ensures
+    is_whole _ _ (sym c.whole.ensures ∙ not-false _ c.if-not-whole.false) _ c.step_whole.ensures

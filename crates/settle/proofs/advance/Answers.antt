@@ -8,17 +8,14 @@ returns-then-busy c = advance_busy _ _ _ _ _ _ _ c.busy.ensures c.if-busy.true c
 
 pub returns-then-c : goal.returns-then-c
 returns-then-c c =
-    let b = c.before.before.before in
-    advance_level _ _ _ _ _ _ _ b.before.busy.ensures b.if1.false c.if-c.true c.refused-then-c.ensures
+    advance_level _ _ _ _ _ _ _ c.busy.ensures c.if-busy.false c.if-c.true c.refused-then-c.ensures
 
 pub returns-then-cut : goal.returns-then-cut
 returns-then-cut c =
-    let b = c.before.before.before.before in
-    advance_cut _ _ _ _ _ _ _ b.before.busy.ensures b.if1.false c.if-c.false c.if-cut.true c.cut_still.ensures
+    advance_cut _ _ _ _ _ _ _ c.busy.ensures c.if-busy.false c.if-c.false c.if-cut.true c.cut_still.ensures
 
 pub returns : goal.returns
 returns c =
-    let l = c.before.before.before in
-    let b = l.before.before in
-    advance_whole _ _ _ _ _ _ _ b.before.busy.ensures b.if1.false l.if2.false c.if-cut.false _
+    let b = c.before.before in
+    advance_whole _ _ _ _ _ _ _ b.before.busy.ensures b.if1.false c.if-c.false c.if-cut.false _
     c.committed.ensures c.done.ensures

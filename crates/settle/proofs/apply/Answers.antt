@@ -2,10 +2,11 @@
 -- Assumes nothing.
 use Rattle.settle.proofs.Laws.{FoundAt, found_at, apply_nothing, apply_not_learned, apply_cut, apply_whole}
 use Rattle.settle.proofs.apply.Goals as goal
+use Rattle.settle.proofs.apply.Goals.{In-At-2}
 
 -- what was found, once it is known to be something
 found :
-    (c : goal.In-At-2)
+    (c : In-At-2)
     → FoundAt c.args.flight.now c.args.node c.found-1.given.0.0 c.found-1.given.0.1.0
 found c = found_at _ _ _ _ _ c.found-1.given.1 c.least-found.ensures
 
@@ -17,29 +18,24 @@ tag-requires c = ((found c.before.before).2, c.requires.1)
 
 pub returns-then-tag-ne-TO_APPLY : goal.returns-then-tag-ne-TO_APPLY
 returns-then-tag-ne-TO_APPLY c =
-    let t = c.before.before in
-    apply_not_learned _ _ _ _ _ _ _ _ _ _ _ _ (found t.before.before.before) _ t.tag.ensures c.if-tag-ne-TO_APPLY.true c.refused-then-tag-ne-TO_APPLY.ensures
+    apply_not_learned _ _ _ _ _ _ _ _ _ _ _ _ (found c.before.before.before) _ c.tag.ensures c.if-tag-ne-TO_APPLY.true c.refused-then-tag-ne-TO_APPLY.ensures
 
 pub returns-then-cut : goal.returns-then-cut
 returns-then-cut c =
-    let t = c.before.before.before in
-    apply_cut _ _ _ _ _ _ _ _ _ _ _ _ (found t.before.before.before) _ t.tag.ensures c.if-tag-ne-TO_APPLY.false c.if-cut.true
+    apply_cut _ _ _ _ _ _ _ _ _ _ _ _ (found c.before.before.before) _ c.tag.ensures c.if-tag-ne-TO_APPLY.false c.if-cut.true
     c.cut_still.ensures
 
 pub store-requires : goal.store-requires
 store-requires c =
-    let f = c.before.before.before.before.before.before.before in
-    let p = f.before.before.before.before.requires in
+    let p = c.requires in
     (p.0, (found f).2, p.1, λ i h. p.2 _ i (found f).2 h)
 
 pub enter-requires : goal.enter-requires
 enter-requires c =
-    let f = c.before.before.before.before.before.before.before.before.before in
-    ((found f).2, f.before.before.before.before.requires.1)
+    ((found f).2, c.requires.1)
 
 pub returns : goal.returns
 returns c =
-    let i = c.before.before.before.before.before.before.before in
-    let t = i.before.before in
-    apply_whole _ _ _ _ _ _ _ _ _ _ _ _ (found t.before.before.before) _ t.tag.ensures i.before.if1.false i.if2.false _
+    let t = c.before.before in
+    apply_whole _ _ _ _ _ _ _ _ _ _ _ _ (found t.before.before.before) _ t.tag.ensures c.if-tag-ne-TO_APPLY.false c.if-cut.false _
     c.committed.ensures c.done.ensures _ c.enter.ensures _ c.store.ensures

@@ -5,25 +5,21 @@ use Rattle.settle.proofs.closer.Goals as goal
 
 pub returns-then-not-unfinished : goal.returns-then-not-unfinished
 returns-then-not-unfinished c =
-    let s = c.before.before in
-    turned_not _ _ _ s.args.best s.requires.2 _ c.unfinished.ensures c.if-not-unfinished.true
+    turned_not _ _ _ c.args.best c.requires.2 _ c.unfinished.ensures c.if-not-unfinished.true
 
 pub returns-then-k-number : goal.returns-then-k-number
 returns-then-k-number c =
-    let b = c.before.before in
-    let k = b.before.before in
+    let k = c.before.before in
     let u = k.before.before in
-    turned_less _ _ _ _ u.before.requires.2 _ u.unfinished.ensures k.before.if1.false _ k.number.ensures _ _ b.best.given.1 c.if-k-number.true
+    turned_less _ _ _ _ u.before.requires.2 _ u.unfinished.ensures k.before.if1.false _ k.number.ensures _ _ c.best-1.given.1 c.if-k-number.true
 
 pub returns-else-k-number : goal.returns-else-k-number
 returns-else-k-number c =
-    let b = c.before.before in
-    let k = b.before.before in
+    let k = c.before.before in
     let u = k.before.before in
-    turned_stays _ _ _ _ u.before.requires.2 _ u.unfinished.ensures k.before.if1.false _ k.number.ensures _ _ b.best.given.1 c.if-k-number.false
+    turned_stays _ _ _ _ u.before.requires.2 _ u.unfinished.ensures k.before.if1.false _ k.number.ensures _ _ c.best-1.given.1 c.if-k-number.false
 
 pub returns-in-Nothing : goal.returns-in-Nothing
 returns-in-Nothing c =
-    let k = c.before.before in
-    let u = k.before.before in
-    turned_first _ _ _ _ u.before.requires.2 _ u.unfinished.ensures k.before.if1.false _ k.number.ensures c.enum_told-1.given.1
+    let u = c.before.before in
+    turned_first _ _ _ _ u.before.requires.2 _ u.unfinished.ensures c.if-not-unfinished.false _ c.number-k.ensures c.enum_told-1.given.1

@@ -1,4 +1,5 @@
 -- `settle::least` meets its contract.
+-- Assumes nothing.
 use mathlib.Core.Path.{refl, sym}
 use Prim.Native.Nat.{◌-◌}
 use native.Mathlib.Omega.{arith}

@@ -7,7 +7,7 @@ use Rattle.settle.proofs.Laws.{Kept, least_to}
 use Rattle.settle.proofs.least.Given as goal
 
 abbrev pub invariant-loop-t : goal.invariant-loop-t
-invariant-loop-t l = (l.t ≤ 32) × (slot_of l.initial.t ≡ least_to l.flight l.node l.t) × Kept l.flight l.node l.initial.t
+invariant-loop-t l = (l.t ≤ 32) × (slot_of l.best ≡ least_to l.flight l.node l.t) × Kept l.flight l.node l.best
 
 abbrev pub decreases-loop-t : goal.decreases-loop-t
 decreases-loop-t l = 32 - l.t

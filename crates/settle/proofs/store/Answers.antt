@@ -1,4 +1,5 @@
 -- `settle::store` meets its contract.
+-- Assumes nothing.
 use mathlib.Core.Path.{sym}
 use Prim.Native.Nat.{◌<◌, ◌-◌}
 use native.Mathlib.Omega.{arith}
@@ -10,9 +11,8 @@ loop-c-init c = (omega arith, sym (stored_none _ _ _ _ _ _))
 
 pub store_cell-requires : goal.store_cell-requires
 store_cell-requires c =
-    let l = c.before.before.before in
-    let h : l.loop.c < 32 = omega arith in
-    (h, l.before.requires.1, l.before.requires.2, l.before.requires.3 _ h)
+    let h : c.loop-c.c < 32 = omega arith in
+    (h, c.requires.1, c.requires.2, c.requires.3 _ h)
 
 pub loop-c-preserved : goal.loop-c-preserved
 loop-c-preserved c = (omega arith, stored_turn _ _ _ _ _ _ _ _ _ c.loop-c.invariant.1 c.store_cell.ensures)

@@ -7,7 +7,7 @@ use Rattle.settle.specs.Settle.{stored}
 use Rattle.settle.proofs.store.Given as goal
 
 abbrev pub invariant-loop-c : goal.invariant-loop-c
-invariant-loop-c l = (l.c ≤ l.cells) × (chains l.number l.initial.c ≡ stored l.c l.masks (chains l.initial.lens l.lens) l.initial.versions l.versions l.writes l.t)
+invariant-loop-c l = (l.c ≤ l.cells) × (chains l.lens l.versions ≡ stored l.c l.masks (chains l.initial.lens l.initial.versions) l.writes l.t l.node l.number)
 
 abbrev pub decreases-loop-c : goal.decreases-loop-c
 decreases-loop-c l = l.cells - l.c

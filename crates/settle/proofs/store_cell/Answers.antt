@@ -8,11 +8,9 @@ returns-then-not-holds c = cell_not_held _ _ _ _ _ _ _ _ c.holds.ensures c.if-no
 
 pub returns-then-x-eq0 : goal.returns-then-x-eq0
 returns-then-x-eq0 c =
-    let x = c.before in
-    cell_not_written _ _ _ _ _ _ _ _ x.before.before.holds.ensures x.before.if1.false _ x.noted.ensures c.if-x-eq0.true
+    cell_not_written _ _ _ _ _ _ _ _ c.holds.ensures c.if-not-holds.false _ c.noted-x.ensures c.if-x-eq0.true
 
 pub returns : goal.returns
 returns c =
-    let i = c.before.before.before in
-    let x = i.before in
-    cell_written _ _ _ _ _ _ _ _ x.before.before.holds.ensures x.before.if1.false _ x.noted.ensures _ i.if2.false c.add.ensures.1
+    let x = c.before in
+    cell_written _ _ _ _ _ _ _ _ x.before.before.holds.ensures x.before.if1.false _ x.noted.ensures _ c.if-x-eq0.false c.add.ensures.1

@@ -8,9 +8,10 @@ use lib.ListN.{length}
 use borrow.Author.Tests.{leb-true, leb-false}
 use Rattle.text.proofs.Placed.{placed_in, wrote_none, wrote_all}
 use Rattle.text.proofs.byte.Goals as goal
+use Rattle.text.proofs.byte.Goals.{Then-room}
 
 -- where the test passes
-inside : (c : goal.Then-room) → let a = c.args in a.at + 1 ≤ length a.out.now
+inside : (c : Then-room) → let a = c.args in a.at + 1 ≤ length a.out.now
 inside c = let e = sym c.room.ensures ∙ c.if-room.true in omega (arith, leb-true)
 
 pub bounds-out-at : goal.bounds-out-at

@@ -1,4 +1,5 @@
 -- `text::bytes` meets its contract.
+-- Assumes nothing.
 use mathlib.Core.Path.{◌≡◌, refl, sym, ◌∙◌}
 use Prim.Native.Nat.{◌+◌, ◌-◌, ◌≤◌}
 use native.Mathlib.Omega.{arith}
@@ -7,10 +8,11 @@ use borrow.Author.Tests.{leb-true, leb-false}
 use Rattle.text.proofs.Placed.{wrote_none, wrote_all}
 use Rattle.text.proofs.Coding.{rest_all, rest_next, rest_none}
 use Rattle.text.proofs.bytes.Goals as goal
+use Rattle.text.proofs.bytes.Goals.{Then-room}
 
 -- where the test passes
 inside :
-    (c : goal.Then-room)
+    (c : Then-room)
     → let a = c.args in a.at + length a.s.now ≤ length a.out.now
 inside c = let e = sym c.room.ensures ∙ c.if-room.true in omega (arith, leb-true)
 

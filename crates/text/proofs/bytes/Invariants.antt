@@ -8,7 +8,7 @@ use Rattle.text.proofs.Coding.{with_rest}
 use Rattle.text.proofs.bytes.Given as goal
 
 abbrev pub invariant-loop-i : goal.invariant-loop-i
-invariant-loop-i l = (l.i ≤ length l.at) × (length l.initial.i ≡ length l.initial.out) × (placed l.initial.out l.out l.at ≡ with_rest l.initial.i l.out l.at l.i)
+invariant-loop-i l = (l.i ≤ length l.s) × (length l.out ≡ length l.initial.out) × (placed l.initial.out l.at l.s ≡ with_rest l.out l.at l.s l.i)
 
 abbrev pub decreases-loop-i : goal.decreases-loop-i
-decreases-loop-i l = length l.at - l.i
+decreases-loop-i l = length l.s - l.i

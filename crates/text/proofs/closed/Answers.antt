@@ -9,21 +9,21 @@ use borrow.Author.Tests.{leb-true, leb-false}
 use Rattle.text.specs.Text.{decimal}
 use Rattle.text.proofs.Placed.{wrote_none, wrote_both}
 use Rattle.text.proofs.closed.Goals as goal
+use Rattle.text.proofs.closed.Goals.{After-size, Then-room}
 
 -- how many bytes that is
-many : (c : goal.After-size) → let a = c.args in length (decimal a.x ++ (a.b ∷ [])) ≡ c.size.result + 1
+many : (c : After-size) → let a = c.args in length (decimal a.x ++ (a.b ∷ [])) ≡ c.size.result + 1
 many c = let a = c.args in length-append (decimal a.x) (a.b ∷ []) ∙ ap (λ (n : ℕ). n + 1) (sym c.size.ensures.0)
 
 -- where the test passes
 inside :
-    (c : goal.Then-room)
+    (c : Then-room)
     → let a = c.args in a.at + length (decimal a.x ++ (a.b ∷ [])) ≤ length a.out.now
 inside c = let e = sym c.room.ensures ∙ c.if-room.true in omega (arith, leb-true, many c.before.before)
 
 pub returns-then-room : goal.returns-then-room
 returns-then-room c =
-    let d = c.before.before.before.before.before.before in
-    wrote_both _ _ _ d.decimal.result d.decimal.new.0 _ _ _ (inside d.before.before) d.decimal.ensures c.byte.ensures
+    wrote_both _ _ _ c.decimal-end.result c.decimal-end.new.0 _ _ _ (inside c.before.before) c.decimal-end.ensures c.byte.ensures
 
 pub returns-else-room : goal.returns-else-room
 returns-else-room c =

@@ -1,4 +1,5 @@
 -- `text::decimal` meets its contract.
+-- Assumes nothing.
 use mathlib.Core.Path.{◌≡◌, refl, sym, ◌∙◌}
 use Prim.Native.Nat.{◌+◌, ◌≤◌, ◌<◌}
 use native.Mathlib.Omega.{arith}
@@ -8,10 +9,11 @@ use Rattle.text.specs.Text.{decimal}
 use Rattle.text.proofs.Placed.{after_in, wrote_none}
 use Rattle.text.proofs.Coding.{first_all, first_next, first_none}
 use Rattle.text.proofs.decimal.Goals as goal
+use Rattle.text.proofs.decimal.Goals.{Then-room}
 
 -- where the test passes
 inside :
-    (c : goal.Then-room)
+    (c : Then-room)
     → let a = c.args in a.at + c.size-k.result ≤ length a.out.now
 inside c = let e = sym c.room.ensures ∙ c.if-room.true in omega (arith, leb-true)
 

@@ -8,7 +8,7 @@ use Rattle.text.proofs.Coding.{with_first}
 use Rattle.text.proofs.decimal.Given as goal
 
 abbrev pub invariant-loop-left : goal.invariant-loop-left
-invariant-loop-left l = (l.left ≤ l.x) × (length l.high ≡ length l.initial.out) × (placed l.initial.out l.out (decimal l.at) ≡ with_first l.high l.out l.left l.initial.left)
+invariant-loop-left l = (l.left ≤ l.k) × (length l.out ≡ length l.initial.out) × (placed l.initial.out l.at (decimal l.x) ≡ with_first l.out l.at l.left l.high)
 
 abbrev pub decreases-loop-left : goal.decreases-loop-left
 decreases-loop-left l = l.left

@@ -9,18 +9,18 @@ use borrow.Author.Tests.{leb-true, leb-false}
 use Rattle.text.specs.Text.{line_of}
 use Rattle.text.proofs.Placed.{wrote_none, wrote_line}
 use Rattle.text.proofs.line.Goals as goal
+use Rattle.text.proofs.line.Goals.{Then-room}
 
 -- where the test passes
 inside :
-    (c : goal.Then-room)
+    (c : Then-room)
     → let a = c.args in
     a.at + length (line_of (a.a ∷ a.b ∷ a.c ∷ a.d ∷ [])) ≤ length a.out.now
 inside c = let e = sym c.room.ensures ∙ c.if-room.true in omega (arith, leb-true, c.line_size.ensures.0)
 
 pub returns-then-room : goal.returns-then-room
 returns-then-room c =
-    let d = c.before.before in
-    let e = d.before.before.before.before in
+    let e = c.before.before.before.before in
     let f = e.before.before.before.before in
     let g = f.before.before.before.before in
     wrote_line _ _ _ _ _ _
@@ -36,7 +36,7 @@ returns-then-room c =
     g.closed.ensures
     f.closed2.ensures
     e.closed3.ensures
-    d.closed4.ensures
+    c.closed.ensures
 
 pub returns-else-room : goal.returns-else-room
 returns-else-room c =

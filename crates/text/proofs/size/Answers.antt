@@ -1,4 +1,5 @@
 -- `text::size` meets its contract.
+-- Assumes nothing.
 use mathlib.Core.Path.{refl, ◌∙◌}
 use Prim.Native.Nat.{◌-◌}
 use native.Mathlib.Omega.{arith}

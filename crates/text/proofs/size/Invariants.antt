@@ -7,7 +7,7 @@ use Rattle.text.specs.Text.{decimal_in, decimal}
 use Rattle.text.proofs.size.Given as goal
 
 abbrev pub invariant-loop-high : goal.invariant-loop-high
-invariant-loop-high l = (l.n ≤ 10) × (l.initial.n < 10 ^ (11 - l.n)) × (l.n + length (decimal_in (11 - l.n) l.initial.n) ≡ 1 + length (decimal l.x))
+invariant-loop-high l = (l.n ≤ 10) × (l.high < 10 ^ (11 - l.n)) × (l.n + length (decimal_in (11 - l.n) l.high) ≡ 1 + length (decimal l.x))
 
 abbrev pub decreases-loop-high : goal.decreases-loop-high
-decreases-loop-high l = l.initial.n
+decreases-loop-high l = l.high

@@ -1,4 +1,5 @@
 -- `vote::full` meets its contract.
+-- Assumes nothing.
 use mathlib.Core.Path.{sym, ◌∙◌}
 use mathlib.Core.Bool.{false}
 use Prim.Native.Nat.{◌-◌}

@@ -7,19 +7,20 @@ use Rattle.tables.proofs.Tests.{Passed, Fails, here, later, accepted, refused}
 use Rattle.group.specs.State.{in_stage, voting}
 use Rattle.vote.specs.Vote.{prepare_tests}
 use Rattle.vote.proofs.prepare.Goals as goal
+use Rattle.vote.proofs.prepare.Goals.{Else-stage_number-ne-VOTING, Else-tag-ne-SENT, Then-stage_number-ne-VOTING, Then-tag-ne-SENT}
 
-voting_now : (c : goal.Else-stage_number-ne-VOTING) → in_stage c.args.slot voting ≡ true
+voting_now : (c : Else-stage_number-ne-VOTING) → in_stage c.args.slot voting ≡ true
 voting_now c = eq-eqb _ _ (sym c.stage_number.ensures ∙ c.if-stage_number-ne-VOTING.false)
 
-not_voting : (c : goal.Then-stage_number-ne-VOTING) → (let a = c.args in Fails (prepare_tests a.slot a.flight.now a.t a.node) 19)
+not_voting : (c : Then-stage_number-ne-VOTING) → (let a = c.args in Fails (prepare_tests a.slot a.flight.now a.t a.node) 19)
 unfolding prepare_tests
 not_voting c = here (ne_eqb _ _ (λ e. c.if-stage_number-ne-VOTING.true (c.stage_number.ensures ∙ e)))
 
-not_sent : (c : goal.Then-tag-ne-SENT) → (let a = c.args in Fails (prepare_tests a.slot a.flight.now a.t a.node) 19)
+not_sent : (c : Then-tag-ne-SENT) → (let a = c.args in Fails (prepare_tests a.slot a.flight.now a.t a.node) 19)
 unfolding prepare_tests
 not_sent c = later (voting_now c.before.before.before) (here (ne_eqb _ _ (λ e. c.if-tag-ne-SENT.true (c.tag.ensures ∙ e))))
 
-sent_now : (c : goal.Else-tag-ne-SENT) → (let a = c.args in Passed (prepare_tests a.slot a.flight.now a.t a.node))
+sent_now : (c : Else-tag-ne-SENT) → (let a = c.args in Passed (prepare_tests a.slot a.flight.now a.t a.node))
 unfolding prepare_tests
 sent_now c = (voting_now c.before.before.before, (eq-eqb _ _ (sym c.tag.ensures ∙ c.if-tag-ne-SENT.false), tt))
 

@@ -9,12 +9,13 @@ use Rattle.group.specs.State.{snapshot_of}
 use Rattle.vote.specs.Vote.{conflict, outdated, full, vote_for}
 use Rattle.vote.proofs.Laws.{no_1, no_2, no_3, by_proposal}
 use Rattle.vote.proofs.vote.Goals as goal
+use Rattle.vote.proofs.vote.Goals.{After-outdated, Else-conflict}
 
-no_conflict : (c : goal.Else-conflict) → (let a = c.args in
+no_conflict : (c : Else-conflict) → (let a = c.args in
     conflict a.cells a.masks.now a.flight.now a.writes.now a.reads.now a.t a.node ≡ false)
 no_conflict c = sym c.conflict.ensures ∙ c.if-conflict.false
 
-test_2 : (c : goal.After-outdated) → (let a = c.args in
+test_2 : (c : After-outdated) → (let a = c.args in
     c.outdated.result ≡ outdated a.cells a.masks.now (chains a.lens.now a.versions.now) a.reads.now a.t a.node (snapshot_of a.slot.snapshot))
 test_2 c = c.outdated.ensures ∙ rw c.snapshot_of-s.ensures
 
@@ -26,12 +27,10 @@ returns-then-outdated c = no_2 _ _ _ _ _ _ _ _ _ _ (no_conflict c.before.before.
 
 pub returns-then-full : goal.returns-then-full
 unfolding full
-returns-then-full c = let b = c.before.before in
-    no_3 _ _ _ _ _ _ _ _ _ _ (no_conflict b.before.before.before) (sym (test_2 b.before) ∙ b.if2.false) (sym c.full.ensures ∙ c.if-full.true)
+returns-then-full c = no_3 _ _ _ _ _ _ _ _ _ _ (no_conflict c.before.before.before) (sym (test_2 c.before) ∙ c.if-outdated.false) (sym c.full.ensures ∙ c.if-full.true)
 
 pub returns : goal.returns
 unfolding full
-returns c = let d = c.before.before in
-    let b = d.before.before in
+returns c = let b = c.before.before in
     c.ballot_of.ensures ∙ ap (λ (p : Option ℕ). vote_for none p) c.propose-p.ensures
-    ∙ by_proposal _ _ _ _ _ _ _ _ _ _ (no_conflict b.before.before.before) (sym (test_2 b.before) ∙ b.if2.false) (sym d.before.full.ensures ∙ d.if3.false)
+    ∙ by_proposal _ _ _ _ _ _ _ _ _ _ (no_conflict b.before.before.before) (sym (test_2 b.before) ∙ b.if2.false) (sym c.full.ensures ∙ c.if-full.false)

@@ -1,4 +1,5 @@
 -- `whole::transactions_sound` meets its contract: the transactions passed are tried.
+-- Assumes nothing.
 use Prim.Native.Nat.{◌-◌}
 use Rattle.tables.specs.Table.{at}
 use Rattle.whole.proofs.Laws.{begun, turned, ended}

@@ -6,62 +6,55 @@ use Rattle.tables.specs.Table.{at}
 use Rattle.kinds.specs.Kinds.{whole_of}
 use Rattle.desk.proofs.Acts.{kinds_in, slot_in, node_small, act_learn, act_apply, act_advance, act_abandon}
 use Rattle.desk.proofs.by_kind.to_abandon.Goals as goal
+use Rattle.desk.proofs.by_kind.to_abandon.Goals.{In_default}
 
 pub learn-requires : goal.learn-requires
 unfolding at
 learn-requires c =
-    let m = c.before in
-    let w = m.before in
+    let w = c.before in
     let p = w.before.before.requires in
-    let e = sym w.whole.ensures ∙ m.match.keys1 in
+    let e = sym w.whole.ensures ∙ c.in-10.keys1 in
     (slot_in _ _ _ p.1 10 e refl, node_small _ _ _ p.1 10 e p.0.few-nodes refl)
 
 pub apply-requires : goal.apply-requires
 unfolding at
 apply-requires c =
-    let m = c.before.before.before in
-    let w = m.before in
+    let w = c.before in
     let p = w.before.before.requires in
-    let e = sym w.whole.ensures ∙ m.match.keys2 in
+    let e = sym w.whole.ensures ∙ c.in-10.keys2 in
     (p.0.few-cells, node_small _ _ _ p.1 11 e p.0.few-nodes refl, p.0.values)
 
 pub advance-requires : goal.advance-requires
 unfolding at
 advance-requires c =
-    let m = c.before in
-    let w = m.before in
+    let w = c.before in
     let p = w.before.before.requires in
-    let e = sym w.whole.ensures ∙ m.match.keys3 in
+    let e = sym w.whole.ensures ∙ c.in-10.keys3 in
     (node_small _ _ _ p.1 12 e p.0.few-nodes refl)
 
 -- the kind that is left
-is_abandon : (c : goal.In_default) → whole_of c.args.x.kind ≡ 13
+is_abandon : (c : In_default) → whole_of c.args.x.kind ≡ 13
 is_abandon c =
-    let w = c.before in
-    let p = w.before.before.requires in
+    let p = c.requires in
     let r = c.in-10.rest in
-    omega (arith, w.whole.ensures, p.2, (kinds_in _ _ _ p.1).1, r.1, r.0.1, r.0.0.1)
+    omega (arith, c.whole-k.ensures, p.2, (kinds_in _ _ _ p.1).1, r.1, r.0.1, r.0.0.1)
 
 pub returns-in-10 : goal.returns-in-10
 returns-in-10 c =
-    let m = c.before.before in
-    let w = m.before in
-    act_learn _ _ _ _ _ _ _ _ _ _ w.before.before.requires.1 _ w.before.is_cut.ensures (sym w.whole.ensures ∙ m.match.keys1) _ _ c.learn.ensures
+    let w = c.before in
+    act_learn _ _ _ _ _ _ _ _ _ _ w.before.before.requires.1 _ w.before.is_cut.ensures (sym w.whole.ensures ∙ c.in-10.keys1) _ _ c.learn.ensures
 
 pub returns-in-11 : goal.returns-in-11
 returns-in-11 c =
-    let m = c.before.before.before.before in
-    let w = m.before in
-    act_apply _ _ _ _ _ _ _ _ _ _ w.before.before.requires.1 _ w.before.is_cut.ensures (sym w.whole.ensures ∙ m.match.keys2) _ _ _ c.apply.ensures
+    let w = c.before in
+    act_apply _ _ _ _ _ _ _ _ _ _ w.before.before.requires.1 _ w.before.is_cut.ensures (sym w.whole.ensures ∙ c.in-10.keys2) _ _ _ c.apply.ensures
 
 pub returns-in-12 : goal.returns-in-12
 returns-in-12 c =
-    let m = c.before.before in
-    let w = m.before in
-    act_advance _ _ _ _ _ _ _ _ _ _ w.before.before.requires.1 _ w.before.is_cut.ensures (sym w.whole.ensures ∙ m.match.keys3) _ c.advance.ensures
+    let w = c.before in
+    act_advance _ _ _ _ _ _ _ _ _ _ w.before.before.requires.1 _ w.before.is_cut.ensures (sym w.whole.ensures ∙ c.in-10.keys3) _ c.advance.ensures
 
 pub returns-in_default : goal.returns-in_default
 returns-in_default c =
-    let m = c.before in
-    let w = m.before in
+    let w = c.before in
     act_abandon _ _ _ _ _ _ _ _ _ _ w.before.before.requires.1 _ w.before.is_cut.ensures (is_abandon m) _ c.abandon.ensures

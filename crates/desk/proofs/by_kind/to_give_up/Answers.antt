@@ -6,62 +6,55 @@ use Rattle.tables.specs.Table.{at}
 use Rattle.kinds.specs.Kinds.{whole_of}
 use Rattle.desk.proofs.Acts.{slot_in, node_small, act_commit, act_prepare, act_decide, act_give_up}
 use Rattle.desk.proofs.by_kind.to_give_up.Goals as goal
+use Rattle.desk.proofs.by_kind.to_give_up.Goals.{In_default}
 
 pub commit-requires : goal.commit-requires
 unfolding at
 commit-requires c =
-    let m = c.before in
-    let w = m.before in
+    let w = c.before in
     let p = w.before.before.requires in
-    let e = sym w.whole.ensures ∙ m.match.keys1 in
+    let e = sym w.whole.ensures ∙ c.in-6.keys1 in
     (p.0.few-nodes, p.0.few-cells, slot_in _ _ _ p.1 6 e refl)
 
 pub prepare-requires : goal.prepare-requires
 unfolding at
 prepare-requires c =
-    let m = c.before in
-    let w = m.before in
+    let w = c.before in
     let p = w.before.before.requires in
-    let e = sym w.whole.ensures ∙ m.match.keys2 in
+    let e = sym w.whole.ensures ∙ c.in-6.keys2 in
     (p.0.few-cells, slot_in _ _ _ p.1 7 e refl, node_small _ _ _ p.1 7 e p.0.few-nodes refl)
 
 pub decide-requires : goal.decide-requires
 unfolding at
 decide-requires c =
-    let m = c.before in
-    let w = m.before in
+    let w = c.before in
     let p = w.before.before.requires in
-    let e = sym w.whole.ensures ∙ m.match.keys3 in
+    let e = sym w.whole.ensures ∙ c.in-6.keys3 in
     (p.0.few-nodes, slot_in _ _ _ p.1 8 e refl)
 
 -- the kind that is left
-is_give_up : (c : goal.In_default) → whole_of c.args.x.kind ≡ 9
+is_give_up : (c : In_default) → whole_of c.args.x.kind ≡ 9
 is_give_up c =
-    let w = c.before in
-    let p = w.before.before.requires in
+    let p = c.requires in
     let r = c.in-6.rest in
-    omega (arith, w.whole.ensures, p.2, p.3, r.1, r.0.1, r.0.0.1)
+    omega (arith, c.whole-k.ensures, p.2, p.3, r.1, r.0.1, r.0.0.1)
 
 pub returns-in-6 : goal.returns-in-6
 returns-in-6 c =
-    let m = c.before.before in
-    let w = m.before in
-    act_commit _ _ _ _ _ _ _ _ _ _ w.before.before.requires.1 _ w.before.is_cut.ensures (sym w.whole.ensures ∙ m.match.keys1) _ _ c.commit.ensures
+    let w = c.before in
+    act_commit _ _ _ _ _ _ _ _ _ _ w.before.before.requires.1 _ w.before.is_cut.ensures (sym w.whole.ensures ∙ c.in-6.keys1) _ _ c.commit.ensures
 
 pub returns-in-7 : goal.returns-in-7
 returns-in-7 c =
-    let m = c.before.before in
-    let w = m.before in
-    act_prepare _ _ _ _ _ _ _ _ _ _ w.before.before.requires.1 _ w.before.is_cut.ensures (sym w.whole.ensures ∙ m.match.keys2) _ _ c.prepare.ensures
+    let w = c.before in
+    act_prepare _ _ _ _ _ _ _ _ _ _ w.before.before.requires.1 _ w.before.is_cut.ensures (sym w.whole.ensures ∙ c.in-6.keys2) _ _ c.prepare.ensures
 
 pub returns-in-8 : goal.returns-in-8
 returns-in-8 c =
-    let m = c.before.before in
-    let w = m.before in
-    act_decide _ _ _ _ _ _ _ _ _ _ w.before.before.requires.1 _ w.before.is_cut.ensures (sym w.whole.ensures ∙ m.match.keys3) _ c.decide.ensures
+    let w = c.before in
+    act_decide _ _ _ _ _ _ _ _ _ _ w.before.before.requires.1 _ w.before.is_cut.ensures (sym w.whole.ensures ∙ c.in-6.keys3) _ c.decide.ensures
 
 pub returns-in_default : goal.returns-in_default
 returns-in_default c =
-    let m = c.before in
-    let w = m.before in
+    let w = c.before in
     act_give_up _ _ _ _ _ _ _ _ _ _ w.before.before.requires.1 _ w.before.is_cut.ensures (is_give_up m) _ c.give_up.ensures

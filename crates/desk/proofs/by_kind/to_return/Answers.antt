@@ -6,41 +6,38 @@ use Rattle.tables.specs.Table.{at}
 use Rattle.kinds.specs.Kinds.{whole_of}
 use Rattle.desk.proofs.Acts.{kinds_in, slot_in, node_small, cell_small, act_begin, act_write, act_ask, act_serve, act_return}
 use Rattle.desk.proofs.by_kind.to_return.Goals as goal
+use Rattle.desk.proofs.by_kind.to_return.Goals.{In_default}
 
 pub begin-requires : goal.begin-requires
 unfolding at
 begin-requires c =
-    let m = c.before.before in
-    let w = m.before in
-    slot_in _ _ _ w.before.before.requires.1 1 (sym w.whole.ensures ∙ m.match.keys1) refl
+    let w = c.before in
+    slot_in _ _ _ w.before.before.requires.1 1 (sym w.whole.ensures ∙ c.in-1.keys1) refl
 
 pub write-requires : goal.write-requires
 unfolding at
 write-requires c =
-    let m = c.before in
-    let w = m.before in
+    let w = c.before in
     let p = w.before.before.requires in
-    let e = sym w.whole.ensures ∙ m.match.keys2 in
+    let e = sym w.whole.ensures ∙ c.in-1.keys2 in
     (slot_in _ _ _ p.1 2 e refl, cell_small _ _ _ p.1 2 e p.0.few-cells refl)
 
 pub ask-requires : goal.ask-requires
 unfolding at
 ask-requires c =
-    let m = c.before in
-    let w = m.before in
+    let w = c.before in
     let p = w.before.before.requires in
-    let e = sym w.whole.ensures ∙ m.match.keys3 in
+    let e = sym w.whole.ensures ∙ c.in-1.keys3 in
     let t = slot_in _ _ _ p.1 3 e refl in
     let d = cell_small _ _ _ p.1 3 e p.0.few-cells refl in
     (t, node_small _ _ _ p.1 3 e p.0.few-nodes refl, d, p.0.origin, p.0.values _ _ t d)
 
 -- the kind that is left
-is_return : (c : goal.In_default) → whole_of c.args.x.kind ≡ 5
+is_return : (c : In_default) → whole_of c.args.x.kind ≡ 5
 is_return c =
-    let w = c.before in
-    let p = w.before.before.requires in
+    let p = c.requires in
     let r = c.in-1.rest in
-    omega (arith, w.whole.ensures, p.2, (kinds_in _ _ _ p.1).0, r.1, r.0.1, r.0.0.1, r.0.0.0.1)
+    omega (arith, c.whole-k.ensures, p.2, (kinds_in _ _ _ p.1).0, r.1, r.0.1, r.0.0.1, r.0.0.0.1)
 
 pub hand-requires : goal.hand-requires
 unfolding at
@@ -50,30 +47,25 @@ hand-requires c =
 
 pub returns-in-1 : goal.returns-in-1
 returns-in-1 c =
-    let m = c.before.before.before in
-    let w = m.before in
-    act_begin _ _ _ _ _ _ _ _ _ _ w.before.before.requires.1 _ w.before.is_cut.ensures (sym w.whole.ensures ∙ m.match.keys1) _ _ _ c.begin.ensures
+    let w = c.before in
+    act_begin _ _ _ _ _ _ _ _ _ _ w.before.before.requires.1 _ w.before.is_cut.ensures (sym w.whole.ensures ∙ c.in-1.keys1) _ _ _ c.begin.ensures
 
 pub returns-in-2 : goal.returns-in-2
 returns-in-2 c =
-    let m = c.before.before in
-    let w = m.before in
-    act_write _ _ _ _ _ _ _ _ _ _ w.before.before.requires.1 _ w.before.is_cut.ensures (sym w.whole.ensures ∙ m.match.keys2) _ _ c.write.ensures
+    let w = c.before in
+    act_write _ _ _ _ _ _ _ _ _ _ w.before.before.requires.1 _ w.before.is_cut.ensures (sym w.whole.ensures ∙ c.in-1.keys2) _ _ c.write.ensures
 
 pub returns-in-3 : goal.returns-in-3
 returns-in-3 c =
-    let m = c.before.before in
-    let w = m.before in
-    act_ask _ _ _ _ _ _ _ _ _ _ w.before.before.requires.1 _ w.before.is_cut.ensures (sym w.whole.ensures ∙ m.match.keys3) _ c.ask.ensures
+    let w = c.before in
+    act_ask _ _ _ _ _ _ _ _ _ _ w.before.before.requires.1 _ w.before.is_cut.ensures (sym w.whole.ensures ∙ c.in-1.keys3) _ c.ask.ensures
 
 pub returns-in-4 : goal.returns-in-4
 returns-in-4 c =
-    let m = c.before.before in
-    let w = m.before in
-    act_serve _ _ _ _ _ _ _ _ _ _ w.before.before.requires.1 _ w.before.is_cut.ensures (sym w.whole.ensures ∙ m.match.keys4) _ c.serve.ensures
+    let w = c.before in
+    act_serve _ _ _ _ _ _ _ _ _ _ w.before.before.requires.1 _ w.before.is_cut.ensures (sym w.whole.ensures ∙ c.in-1.keys4) _ c.serve.ensures
 
 pub returns-in_default : goal.returns-in_default
 returns-in_default c =
-    let m = c.before.before in
-    let w = m.before in
+    let w = c.before in
     act_return _ _ _ _ _ _ _ _ _ _ w.before.before.requires.1 _ w.before.is_cut.ensures (is_return m) _ _ c.hand.ensures

@@ -1,4 +1,5 @@
 -- `fresh::fill::counters` meets its contract.
+-- Assumes nothing.
 use mathlib.Core.Path.{◌≡◌, refl, sym, ap, ◌∙◌}
 use Prim.Native.Nat.{◌-◌}
 use native.Mathlib.Omega.{arith}
@@ -21,5 +22,4 @@ loop-n-preserved c =
 pub returns : goal.returns
 returns c = let l = c.loop-n in
     let e : l.n ≡ 8 = omega arith in
-    let s = c.before.before.before.before in
-    rw e at l.invariant.1 ∙ anew_map zeroed 0 8 s.args.given.now _ refl s.requires
+    rw e at l.invariant.1 ∙ anew_map zeroed 0 8 c.args.given.now _ refl c.requires

@@ -8,7 +8,7 @@ use Rattle.counters.specs.Counters.{zeroed}
 use Rattle.fresh.proofs.fill.counters.Given as goal
 
 abbrev pub invariant-loop-n : goal.invariant-loop-n
-invariant-loop-n l = (l.n ≤ 8) × (l.initial.n ≡ each (zeroed 0) l.n (λ j. j) (λ j e. zeroed (at l.given j 0)) l.initial.row)
+invariant-loop-n l = (l.n ≤ 8) × (l.row ≡ each (zeroed 0) l.n (λ j. j) (λ j e. zeroed (at l.given j 0)) l.initial.row)
 
 abbrev pub decreases-loop-n : goal.decreases-loop-n
 decreases-loop-n l = 8 - l.n

@@ -1,4 +1,5 @@
 -- `fresh::fill::lens` meets its contract.
+-- Assumes nothing.
 use mathlib.Core.Path.{◌≡◌, sym, ap, ◌∙◌}
 use Prim.Native.Nat.{◌-◌}
 use native.Mathlib.Omega.{arith}

@@ -8,7 +8,7 @@ use Rattle.group.specs.State.{holds}
 use Rattle.fresh.proofs.fill.lens.Given as goal
 
 abbrev pub invariant-loop-i : goal.invariant-loop-i
-invariant-loop-i l = (l.i ≤ 256) × (l.initial.i ≡ each 0 l.i (λ j. j) (λ j e. cond (holds l.masks (j % 8) (j / 8)) 1 0) l.initial.lens)
+invariant-loop-i l = (l.i ≤ 256) × (l.lens ≡ each 0 l.i (λ j. j) (λ j e. cond (holds l.masks (j % 8) (j / 8)) 1 0) l.initial.lens)
 
 abbrev pub decreases-loop-i : goal.decreases-loop-i
 decreases-loop-i l = 256 - l.i

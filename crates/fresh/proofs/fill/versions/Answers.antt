@@ -1,4 +1,5 @@
 -- `fresh::fill::versions` meets its contract.
+-- Assumes nothing.
 use mathlib.Core.Path.{◌≡◌, sym, ap₂, ◌∙◌}
 use Prim.Native.Nat.{◌*◌, ◌-◌, ◌/◌}
 use native.Mathlib.Omega.{arith}

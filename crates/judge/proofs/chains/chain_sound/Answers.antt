@@ -15,5 +15,4 @@ returns-then-k-gt8 c = rw (← c.len-k.ensures, le-leb _ _ c.if-k-lt1.false, lt-
 
 pub returns : goal.returns
 unfolding chain_sound
-returns c = let b = c.before.before in
-    rw (← b.before.before.len.ensures, le-leb _ _ b.before.if1.false, le-leb _ _ b.if2.false, c.number.ensures, c.ascends.ensures)
+returns c = rw (← c.len-k.ensures, le-leb _ _ c.if-k-lt1.false, le-leb _ _ c.if-k-gt8.false, c.number.ensures, c.ascends.ensures)

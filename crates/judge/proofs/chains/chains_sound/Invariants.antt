@@ -7,7 +7,7 @@ use Rattle.whole.proofs.Laws.{SoFar}
 use Rattle.judge.proofs.chains.chains_sound.Given as goal
 
 abbrev pub invariant-loop-c : goal.invariant-loop-c
-invariant-loop-c l = SoFar l.cells (cell_sound l.nodes l.masks (chains l.lens l.versions)) l.initial.c l.c
+invariant-loop-c l = SoFar l.cells (cell_sound l.nodes l.masks (chains l.lens l.versions)) l.ok l.c
 
 abbrev pub decreases-loop-c : goal.decreases-loop-c
 decreases-loop-c l = l.cells - l.c

@@ -6,7 +6,7 @@ use Rattle.whole.proofs.Laws.{SoFar}
 use Rattle.judge.proofs.pending.differ.Given as goal
 
 abbrev pub invariant-loop-u : goal.invariant-loop-u
-invariant-loop-u l = SoFar l.t (differ_at l.flight l.n l.t) l.initial.u l.u
+invariant-loop-u l = SoFar l.t (differ_at l.flight l.n l.t) l.ok l.u
 
 abbrev pub decreases-loop-u : goal.decreases-loop-u
 decreases-loop-u l = l.t - l.u

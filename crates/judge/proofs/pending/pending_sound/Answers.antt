@@ -9,5 +9,4 @@ returns-then-not-unfinished c = rw (← c.unfinished.ensures, c.if-not-unfinishe
 
 pub returns : goal.returns
 unfolding pending_sound
-returns c = let b = c.before.before.before in
-    rw (← b.before.unfinished.ensures, b.if1.false, ← c.number-x.ensures, c.differ.ensures, c.fits2.ensures)
+returns c = rw (← c.unfinished.ensures, c.if-not-unfinished.false, ← c.number-x.ensures, c.differ.ensures, c.fits.ensures)

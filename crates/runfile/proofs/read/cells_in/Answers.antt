@@ -1,4 +1,5 @@
 -- `runfile::read::cells_in` meets its contract.
+-- Assumes nothing.
 use mathlib.Core.Path.{refl, sym, ap, ◌∙◌}
 use Prim.Native.Nat.{◌-◌}
 use native.Mathlib.Omega.{arith}
@@ -22,9 +23,8 @@ overflow_add-start-in-loop-i c = omega arith
 
 pub returns-in_default : goal.returns-in_default
 returns-in_default c =
-    let l = c.before.before.before.before in
     let e = sym c.read.ensures ∙ ap result_of c.enum_told-1.given.1 in
-    cells_cut _ _ _ _ l.before.before.requires.2 _ _ _ l.loop.invariant c.loop-i-test.true e
+    cells_cut _ _ _ _ c.requires.2 _ _ _ c.loop-i.invariant c.loop-i-test.true e
 
 pub overflow_mul-mask : goal.overflow_mul-mask
 overflow_mul-mask c = omega arith
@@ -55,16 +55,14 @@ loop-i-smaller c = omega arith
 pub loop-i-preserved : goal.loop-i-preserved
 unfolding put
 loop-i-preserved c =
-    let l = c.before.before.before.before.before.before.before.before in
     let e = sym c.read.ensures ∙ ap result_of c.value-1.given.1 in
-    cells_turn _ _ _ _ l.before.before.requires.2 _ _ _ l.loop.invariant _ _ c.loop-i-test.true e refl
+    cells_turn _ _ _ _ c.requires.2 _ _ _ c.loop-i.invariant _ _ c.loop-i-test.true e refl
     (sym c.mask_sound.ensures ∙ c.if-mask_sound.true)
 
 pub returns-else-mask_sound : goal.returns-else-mask_sound
 returns-else-mask_sound c =
-    let l = c.before.before.before.before.before.before.before.before in
     let e = sym c.read.ensures ∙ ap result_of c.value-1.given.1 in
-    cells_bad _ _ _ _ l.before.before.requires.2 _ _ _ l.loop.invariant _ _ c.loop-i-test.true e refl
+    cells_bad _ _ _ _ c.requires.2 _ _ _ c.loop-i.invariant _ _ c.loop-i-test.true e refl
     (sym c.mask_sound.ensures ∙ c.if-mask_sound.false)
 
 pub returns : goal.returns

@@ -5,7 +5,7 @@ use Rattle.runfile.proofs.Sections.{CellsSo}
 use Rattle.runfile.proofs.read.cells_in.Given as goal
 
 abbrev pub invariant-loop-i : goal.invariant-loop-i
-invariant-loop-i l = CellsSo l.file l.start l.nodes l.n l.i l.values l.initial.i
+invariant-loop-i l = CellsSo l.file l.start l.nodes l.n l.i l.masks l.values
 
 abbrev pub decreases-loop-i : goal.decreases-loop-i
 decreases-loop-i l = l.n - l.i

@@ -14,21 +14,18 @@ returns-in_default c =
 
 pub returns-then-count-low : goal.returns-then-count-low
 returns-then-count-low c =
-    let k = c.before.before.before.before.before in
-    let p = k.before.before.requires in
-    let e = sym k.read.ensures ∙ ap result_of c.count-1.given.1 in
+    let p = c.requires in
+    let e = sym c.read.ensures ∙ ap result_of c.count-1.given.1 in
     no_count _ _ _ _ _ c.no_count-then-count-low.ensures (omega arith) (count_low _ _ _ _ _ p.0 p.1 _ e c.if-count-low.true)
 
 pub returns-then-high-count : goal.returns-then-high-count
 returns-then-high-count c =
-    let k = c.before.before.before.before.before.before in
-    let p = k.before.before.requires in
-    let e = sym k.read.ensures ∙ ap result_of c.count-1.given.1 in
+    let p = c.requires in
+    let e = sym c.read.ensures ∙ ap result_of c.count-1.given.1 in
     no_count _ _ _ _ _ c.no_count-then-high-count.ensures (omega arith) (count_high _ _ _ _ _ p.0 p.1 _ e c.if-high-count.true c.if-count-low.false)
 
 pub returns : goal.returns
 returns c =
-    let k = c.before.before.before.before.before in
-    let p = k.before.before.requires in
-    let e = sym k.read.ensures ∙ ap result_of c.count-1.given.1 in
+    let p = c.requires in
+    let e = sym c.read.ensures ∙ ap result_of c.count-1.given.1 in
     (told_sound (count_in _ _ _ _ _ p.0 p.1 _ e c.if-count-low.false c.if-high-count.false), c.if-high-count.false)

@@ -1,4 +1,5 @@
 -- `runfile::read::counters_in` meets its contract.
+-- Assumes nothing.
 use mathlib.Core.Path.{sym, ap, ◌∙◌}
 use Prim.Native.Nat.{◌-◌}
 use native.Mathlib.Omega.{arith}
@@ -18,9 +19,8 @@ overflow_add-i c = omega arith
 
 pub returns-in_default : goal.returns-in_default
 returns-in_default c =
-    let l = c.before.before.before.before in
     let e = sym c.read.ensures ∙ ap result_of c.enum_told-1.given.1 in
-    counters_cut _ _ l.before.before.requires _ _ l.loop.invariant c.loop-i-test.true e
+    counters_cut _ _ c.requires _ _ c.loop-i.invariant c.loop-i-test.true e
 
 pub offset_bounds-counters-i : goal.offset_bounds-counters-i
 offset_bounds-counters-i c = omega arith
@@ -37,9 +37,8 @@ loop-i-smaller c = omega arith
 pub loop-i-preserved : goal.loop-i-preserved
 unfolding put
 loop-i-preserved c =
-    let l = c.before.before.before.before.before in
     let e = sym c.read.ensures ∙ ap result_of c.x-1.given.1 in
-    counters_turn _ _ l.before.before.requires _ _ l.loop.invariant _ c.loop-i-test.true e
+    counters_turn _ _ c.requires _ _ c.loop-i.invariant _ c.loop-i-test.true e
 
 pub returns : goal.returns
 returns c = counters_end _ _ c.requires _ _ c.loop-i.invariant c.loop-i-test.false

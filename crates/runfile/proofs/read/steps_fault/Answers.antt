@@ -1,4 +1,5 @@
 -- `runfile::read::steps_fault` meets its contract.
+-- Assumes nothing.
 use mathlib.Core.Path.{sym, ap, ◌∙◌}
 use Prim.Native.Nat.{◌-◌}
 use native.Mathlib.Omega.{arith}
@@ -17,9 +18,8 @@ returns-in_default c =
 
 pub returns-then-not-fields_sound : goal.returns-then-not-fields_sound
 returns-then-not-fields_sound c =
-    let k = c.before.before.before.before.before in
-    let e = sym k.step-at.ensures ∙ ap taken_of c.x-1.given.1 in
-    steps_bad _ _ _ k.before.before.loop.invariant.1 _ k.before.loop-test.true e
+    let e = sym c.step_at.ensures ∙ ap taken_of c.x-1.given.1 in
+    steps_bad _ _ _ c.loop-i.invariant.1 _ c.loop-i-test.true e
     (sym c.fields_sound.ensures ∙ not-true c.fields_sound.result c.if-not-fields_sound.true)
 
 pub overflow_add-i : goal.overflow_add-i
@@ -30,10 +30,9 @@ loop-i-smaller c = omega arith
 
 pub loop-i-preserved : goal.loop-i-preserved
 loop-i-preserved c =
-    let k = c.before.before.before.before.before in
-    let e = sym k.step-at.ensures ∙ ap taken_of c.x-1.given.1 in (
+    let e = sym c.step_at.ensures ∙ ap taken_of c.x-1.given.1 in (
       omega arith,
-      steps_turn _ _ _ k.before.before.loop.invariant.1 _ k.before.loop-test.true e
+      steps_turn _ _ _ c.loop-i.invariant.1 _ c.loop-i-test.true e
           (sym c.fields_sound.ensures ∙ not-false c.fields_sound.result c.if-not-fields_sound.false),
     )
 

@@ -1,4 +1,5 @@
 -- `runwrite::put::masks_sound` meets its contract.
+-- Assumes nothing.
 use mathlib.Core.Path.{sym, ◌∙◌}
 use mathlib.Core.Bool.{true}
 use Prim.Native.Nat.{◌-◌}

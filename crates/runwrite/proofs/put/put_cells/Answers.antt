@@ -1,4 +1,5 @@
 -- `runwrite::put::put_cells` meets its contract.
+-- Assumes nothing.
 use mathlib.Core.Path.{refl, ◌∙◌}
 use Prim.Native.Nat.{◌+◌, ◌*◌, ◌-◌}
 use native.Mathlib.Omega.{arith}
@@ -46,8 +47,7 @@ loop-i-smaller c = omega arith
 pub loop-i-preserved : goal.loop-i-preserved
 unfolding at
 loop-i-preserved c =
-    let l = c.before.before.before.before.before.before.before in
-    let t = put_turn (cell_item 0) _ _ _ _ _ _ l.loop.invariant.2 (c.store.ensures.1 ∙ cell_stored l.loop.out (l.before.before.args.start + 5 * l.loop.i) _ _ (omega arith)) in
+    let t = put_turn (cell_item 0) _ _ _ _ _ _ c.loop-i.invariant.2 (c.store.ensures.1 ∙ cell_stored c.loop-i.out (c.args.start + 5 * c.loop-i.i) _ _ (omega arith)) in
     (omega arith, t.0, t.1)
 
 pub shape_of-out : goal.shape_of-out

@@ -9,7 +9,7 @@ use Rattle.runwrite.proofs.Writing.{Put}
 use Rattle.runwrite.proofs.put.put_cells.Given as goal
 
 abbrev pub invariant-loop-i : goal.invariant-loop-i
-invariant-loop-i l = (l.i ≤ l.n) × (length l.initial.i ≡ length l.initial.out) × Put (cell_item 0) l.initial.out l.start (cell_in l.masks l.values) l.i l.initial.i
+invariant-loop-i l = (l.i ≤ l.n) × (length l.out ≡ length l.initial.out) × Put (cell_item 0) l.initial.out l.start (cell_in l.masks l.values) l.i l.out
 
 abbrev pub decreases-loop-i : goal.decreases-loop-i
 decreases-loop-i l = l.n - l.i

@@ -1,4 +1,5 @@
 -- `runwrite::put::put_counters` meets its contract.
+-- Assumes nothing.
 use mathlib.Core.Path.{refl, ◌∙◌}
 use Prim.Native.Nat.{◌-◌}
 use native.Mathlib.Omega.{arith}
@@ -31,8 +32,7 @@ loop-i-smaller c = omega arith
 pub loop-i-preserved : goal.loop-i-preserved
 unfolding at
 loop-i-preserved c =
-    let l = c.before.before.before.before.before.before in
-    let t = put_turn counter_item _ _ _ _ _ _ l.loop.invariant.2 (c.store.ensures.1 ∙ counter_stored _ _ _ (omega arith)) in
+    let t = put_turn counter_item _ _ _ _ _ _ c.loop-i.invariant.2 (c.store.ensures.1 ∙ counter_stored _ _ _ (omega arith)) in
     (omega arith, t.0, t.1)
 
 pub shape_of-out : goal.shape_of-out

@@ -9,7 +9,7 @@ use Rattle.runwrite.proofs.Writing.{Put}
 use Rattle.runwrite.proofs.put.put_counters.Given as goal
 
 abbrev pub invariant-loop-i : goal.invariant-loop-i
-invariant-loop-i l = (l.i ≤ l.n) × (length l.initial.i ≡ length l.initial.out) × Put counter_item l.initial.out 1 (λ j. at l.counters j 0) l.i l.initial.i
+invariant-loop-i l = (l.i ≤ l.n) × (length l.out ≡ length l.initial.out) × Put counter_item l.initial.out 1 (λ j. at l.counters j 0) l.i l.out
 
 abbrev pub decreases-loop-i : goal.decreases-loop-i
 decreases-loop-i l = l.n - l.i

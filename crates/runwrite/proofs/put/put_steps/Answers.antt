@@ -1,4 +1,5 @@
 -- `runwrite::put::put_steps` meets its contract.
+-- Assumes nothing.
 use mathlib.Core.Path.{refl, ◌∙◌}
 use Prim.Native.Nat.{◌-◌}
 use native.Mathlib.Omega.{arith}
@@ -40,10 +41,9 @@ loop-i-smaller c = omega arith
 pub loop-i-preserved : goal.loop-i-preserved
 unfolding at
 loop-i-preserved c =
-    let k = c.before.before.before.before.before.before.before in
-    let l = k.before.before.before.before.before in
+    let l = c.before.before.before.before.before in
     let t = put_turn step_item _ _ _ _ _ _ l.loop.invariant.2 (c.store-in-loop-i.ensures.1
-    ∙ rw (k.store.ensures.1, c.high.ensures, k.before.low.ensures) (step_stored _ _ _ (omega arith))) in
+    ∙ rw (c.store.ensures.1, c.high.ensures, c.low.ensures) (step_stored _ _ _ (omega arith))) in
     (omega arith, t.0, t.1)
 
 pub shape_of-out : goal.shape_of-out

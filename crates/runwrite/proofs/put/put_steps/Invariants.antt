@@ -10,7 +10,7 @@ use Rattle.runwrite.proofs.Writing.{Put}
 use Rattle.runwrite.proofs.put.put_steps.Given as goal
 
 abbrev pub invariant-loop-i : goal.invariant-loop-i
-invariant-loop-i l = (l.i ≤ length l.steps) × (length l.initial.i ≡ length l.initial.out) × Put step_item l.initial.out l.start (λ j. step_of (at l.steps j 0)) l.i l.initial.i
+invariant-loop-i l = (l.i ≤ length l.steps) × (length l.out ≡ length l.initial.out) × Put step_item l.initial.out l.start (λ j. step_of (at l.steps j 0)) l.i l.out
 
 abbrev pub decreases-loop-i : goal.decreases-loop-i
 decreases-loop-i l = length l.steps - l.i

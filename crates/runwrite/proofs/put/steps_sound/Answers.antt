@@ -1,4 +1,5 @@
 -- `runwrite::put::steps_sound` meets its contract.
+-- Assumes nothing.
 use mathlib.Core.Path.{sym, ap, ◌∙◌}
 use mathlib.Core.Bool.{true}
 use Prim.Native.Nat.{◌-◌}

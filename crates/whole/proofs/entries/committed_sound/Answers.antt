@@ -5,10 +5,8 @@ use Rattle.whole.proofs.entries.committed_sound.Goals as goal
 
 pub returns-then-stage_number-writer : goal.returns-then-stage_number-writer
 unfolding committed_sound
-returns-then-stage_number-writer c = let b = c.before.before in
-    rw (← b.before.before.stage-number.ensures, ← b.before.writer.ensures, b.if1.true, ← c.final_of.ensures) c.finals.ensures
+returns-then-stage_number-writer c = rw (← c.stage_number.ensures, ← c.writer.ensures, c.if-stage_number-writer.true, ← c.final_of.ensures) c.finals.ensures
 
 pub returns : goal.returns
 unfolding committed_sound
-returns c = let b = c.before in
-    rw (← b.before.before.stage-number.ensures, ← b.before.writer.ensures, b.if1.false) c.unapplying.ensures
+returns c = rw (← c.stage_number.ensures, ← c.writer.ensures, c.if-stage_number-writer.false) c.unapplying.ensures

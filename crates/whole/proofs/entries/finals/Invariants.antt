@@ -6,7 +6,7 @@ use Rattle.whole.proofs.Laws.{SoFar}
 use Rattle.whole.proofs.entries.finals.Given as goal
 
 abbrev pub invariant-loop-n : goal.invariant-loop-n
-invariant-loop-n l = SoFar l.nodes (final_at l.last l.flight l.t) l.initial.n l.n
+invariant-loop-n l = SoFar l.nodes (final_at l.last l.flight l.t) l.ok l.n
 
 abbrev pub decreases-loop-n : goal.decreases-loop-n
 decreases-loop-n l = l.nodes - l.n

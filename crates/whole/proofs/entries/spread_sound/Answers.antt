@@ -7,9 +7,7 @@ pub returns-then-stage-writer : goal.returns-then-stage-writer
 returns-then-stage-writer c = rw (← c.writer.ensures, c.if-stage-writer.true) c.spread.ensures
 
 pub returns-then-stage-eq-ABORTED : goal.returns-then-stage-eq-ABORTED
-returns-then-stage-eq-ABORTED c = let b = c.before.before in
-    rw (← b.before.before.writer.ensures, b.before.if1.false, eq-eqb _ _ c.if-stage-eq-ABORTED.true, c.spread-then-stage-eq-ABORTED.ensures, b.empty.ensures)
+returns-then-stage-eq-ABORTED c = rw (← c.writer.ensures, c.if-stage-writer.false, eq-eqb _ _ c.if-stage-eq-ABORTED.true, c.spread-then-stage-eq-ABORTED.ensures, c.empty-none.ensures)
 
 pub returns : goal.returns
-returns c = let b = c.before.before in
-    rw (← b.before.writer.ensures, b.if1.false, ne_eqb _ _ c.if-stage-eq-ABORTED.false) c.empty-none.ensures
+returns c = rw (← c.writer.ensures, c.if-stage-writer.false, ne_eqb _ _ c.if-stage-eq-ABORTED.false) c.empty-none.ensures

@@ -10,5 +10,4 @@ returns-then-stage_number-ne-VOTING c = rw (← c.stage_number.ensures, ne_eqb _
 
 pub returns : goal.returns
 unfolding voting_sound
-returns c = let b = c.before.before in
-    rw (← b.before.stage-number.ensures, eq-eqb _ _ b.if1.false, c.writer.ensures, c.unlearned.ensures)
+returns c = rw (← c.stage_number.ensures, eq-eqb _ _ c.if-stage_number-ne-VOTING.false, c.writer.ensures, c.unlearned.ensures)

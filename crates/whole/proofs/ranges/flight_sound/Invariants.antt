@@ -6,7 +6,7 @@ use Rattle.whole.proofs.Laws.{SoFar}
 use Rattle.whole.proofs.ranges.flight_sound.Given as goal
 
 abbrev pub invariant-loop-t : goal.invariant-loop-t
-invariant-loop-t l = SoFar 32 (row_sound l.nodes l.flight) l.initial.t l.t
+invariant-loop-t l = SoFar 32 (row_sound l.nodes l.flight) l.ok l.t
 
 abbrev pub decreases-loop-t : goal.decreases-loop-t
 decreases-loop-t l = 32 - l.t

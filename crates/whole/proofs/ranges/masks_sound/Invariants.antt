@@ -6,7 +6,7 @@ use Rattle.whole.proofs.Laws.{SoFar}
 use Rattle.whole.proofs.ranges.masks_sound.Given as goal
 
 abbrev pub invariant-loop-c : goal.invariant-loop-c
-invariant-loop-c l = SoFar l.cells (mask_sound l.nodes l.masks) l.initial.c l.c
+invariant-loop-c l = SoFar l.cells (mask_sound l.nodes l.masks) l.ok l.c
 
 abbrev pub decreases-loop-c : goal.decreases-loop-c
 decreases-loop-c l = l.cells - l.c

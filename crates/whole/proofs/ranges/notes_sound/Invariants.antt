@@ -6,7 +6,7 @@ use Rattle.whole.proofs.Laws.{SoFar}
 use Rattle.whole.proofs.ranges.notes_sound.Given as goal
 
 abbrev pub invariant-loop-i : goal.invariant-loop-i
-invariant-loop-i l = SoFar 1024 (note_sound l.table) l.initial.i l.i
+invariant-loop-i l = SoFar 1024 (note_sound l.table) l.ok l.i
 
 abbrev pub decreases-loop-i : goal.decreases-loop-i
 decreases-loop-i l = 1024 - l.i

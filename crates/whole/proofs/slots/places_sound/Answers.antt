@@ -5,5 +5,4 @@ use Rattle.whole.proofs.slots.places_sound.Goals as goal
 
 pub returns : goal.returns
 unfolding places_sound
-returns c = let b = c.before.before.before in
-    rw (c.asked_sound-2.ensures, c.asked_sound.ensures, b.note-of.ensures, b.before.ask-of.ensures, b.before.before.stage-number.ensures)
+returns c = rw (c.asked_sound-2.ensures, c.asked_sound.ensures, c.note_of-v.ensures, c.ask_of-a.ensures, c.stage_number-k.ensures)

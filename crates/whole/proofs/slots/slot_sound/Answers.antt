@@ -10,5 +10,4 @@ returns-then-stage_number-eq-UNUSED c = rw (← c.stage_number.ensures, eq-eqb _
 
 pub returns : goal.returns
 unfolding slot_sound
-returns c = let b = c.before.before in
-    rw (← b.before.stage-number.ensures, ne_eqb _ _ b.if1.false, c.places_sound.ensures, c.sets_sound.ensures)
+returns c = rw (← c.stage_number.ensures, ne_eqb _ _ c.if-stage_number-eq-UNUSED.false, c.places_sound.ensures, c.sets_sound.ensures)
