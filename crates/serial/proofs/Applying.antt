@@ -149,7 +149,7 @@ module _ (first : ℕ → ℕ) (s : State) (H : List Handed) (a : All first s H)
           (apply_flight s.flight n r) (apply_chains s.group.cells s.group.masks s.flight s.chains s.writes n r) s.writes s.reads
 
       goes : (r : Option ℕ) → First s.flight n r → All first (after_apply r) H
-      goes none x = elim x [ ]
+      goes mathlib.Core.Option.none x = elim x [ ]
       goes (some t) (first_of ht e m) = slot_kept first s H x.slot (place_of s x) (committed_at (counters_at s (place_of s x)) (S.num t n)) (entered s.flight t n finished 0) (h hn t ht e least₁)
           (subst (λ (j : ℕ). All first (set_tables (set_counters s j (committed_at (counters_at s j) (S.num t n))) (entered s.flight t n finished 0) (h hn t ht e least₁) s.writes s.reads) H) (sym p) (applies hn t ht e least₁))
         where

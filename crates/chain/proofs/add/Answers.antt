@@ -1,30 +1,22 @@
 -- `chain::add` meets its contract: no room and nothing changed, or one version and one length put.
 -- Assumes nothing.
 use mathlib.Core.Path.{sym}
-use Prim.Native.Nat.{◌<◌}
 use native.Mathlib.Omega.{arith}
 use borrow.Author.Tests.{le-ltb, lt-ltb}
 use Rattle.tables.specs.Table.{put}
 use Rattle.chain.specs.Chain.{has_room}
 use Rattle.chain.proofs.Laws.{len_chain, added_no_room, added_room}
 use Rattle.chain.proofs.add.Goals as goal
-use Rattle.chain.proofs.add.Goals.{Else-i-ge8}
 
 pub returns-then-i-ge8 : goal.returns-then-i-ge8
 unfolding has_room
 returns-then-i-ge8 c = let e = c.len-i.ensures in (sym (le-ltb _ _ (rw e at c.if-i-ge8.true)), sym (added_no_room _ _ _ _ _ (rw e at c.if-i-ge8.true)))
 
--- where there is room, there is such a chain
-in_range : (c : Else-i-ge8) → (c.args.cell < 32) × (c.args.node < 8)
-in_range c =
-    let a = c.args in
-    len_chain a.lens.now a.cell a.node (omega (arith, c.len-i.ensures))
-
 pub bounds-versions-row : goal.bounds-versions-row
-bounds-versions-row c = omega (arith, in_range c)
+bounds-versions-row c = let a = c.args in omega (arith, len_chain a.lens.now a.cell a.node (omega (arith, c.len-i.ensures)))
 
 pub bounds-lens-row : goal.bounds-lens-row
-bounds-lens-row c = omega (arith, in_range c)
+bounds-lens-row c = let a = c.args in omega (arith, len_chain a.lens.now a.cell a.node (omega (arith, c.len-i.ensures)))
 
 pub returns : goal.returns
 unfolding has_room put
