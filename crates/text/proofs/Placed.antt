@@ -1,6 +1,7 @@
 -- Laws of bytes placed among others.
 -- Assumes nothing.
 use mathlib.Core.Path.{◌≡◌, refl, sym, ap, ◌∙◌}
+use mathlib.Core.Bool.{Bool, true, false}
 use Prim.Native.Nat.{ℕ, suc, ◌+◌, ◌-◌, ◌≤◌, ◌<◌}
 use mathlib.Core.List.{List, [], ◌∷◌, ◌++◌, append_assoc}
 use native.Mathlib.Nat.{add-zero}
@@ -12,6 +13,14 @@ use borrow.Author.Tests.{le-leb, lt-leb, leb-true, leb-false}
 use Rattle.tables.proofs.Choice.{by_test}
 use Rattle.text.specs.Text.{decimal, line_of, placed, after}
 use Rattle.text.proofs.Lines.{line_parts, line_length}
+
+-- ---- what a test of room comes to
+
+pub room_there : {b : Bool} {m n : ℕ} → b ≡ leb m n → b ≡ true → m ≤ n
+room_there e t = leb-true _ _ (sym e ∙ t)
+
+pub room_lacking : {b : Bool} {m n : ℕ} → b ≡ leb m n → b ≡ false → n < m
+room_lacking e t = leb-false _ _ (sym e ∙ t)
 
 -- ---- bytes placed
 
