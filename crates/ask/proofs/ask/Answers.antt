@@ -2,7 +2,6 @@
 -- Assumes nothing.
 use mathlib.Core.Path.{◌≡◌, sym, ◌∙◌}
 use mathlib.Core.Bool.{true}
-use borrow.Author.Tests.{not-true, not-false}
 use Rattle.tables.proofs.Tests.{Passed, here, later}
 use Rattle.group.specs.State.{opened, in_stage}
 use Rattle.group.proofs.Turns.{in_stage_lem, not_in_stage, step_refused, step_cut, step_whole}
@@ -26,12 +25,12 @@ may_ask-requires c =
 pub returns-then-not-may_ask : goal.returns-then-not-may_ask
 unfolding ask_tests
 returns-then-not-may_ask c =
-    step_refused _ _ _ _ _ _ _ (later (open_is c.before) (here (sym c.may_ask.ensures ∙ not-true _ c.if-not-may_ask.true))) c.refused-then-not-may_ask.ensures
+    step_refused _ _ _ _ _ _ _ (later (open_is c.before.before.before) (here (sym c.may_ask.ensures ∙ c.if-not-may_ask.true))) c.refused-then-not-may_ask.ensures
 
 -- past the refusals, both tests hold
 passes : (c : Else-not-may_ask) → let a = c.args in Passed (ask_tests a.slot a.masks.now a.writes.now a.t a.node a.cell)
 unfolding ask_tests
-passes c = (open_is c.before.before, (sym c.may_ask.ensures ∙ not-false _ c.if-not-may_ask.false, tt))
+passes c = (open_is c.before.before, (sym c.may_ask.ensures ∙ c.if-not-may_ask.false, tt))
 
 pub returns-then-cut : goal.returns-then-cut
 returns-then-cut c = step_cut _ _ _ _ _ _ _ (passes c.before.before) c.if-cut.true c.cut_at.ensures

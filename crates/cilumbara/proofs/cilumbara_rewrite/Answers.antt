@@ -21,9 +21,9 @@ sound c = opened_sound _ _ _ (bytes c) c.enum_told-1.given.1
 
 pub anew-requires : goal.anew-requires
 anew-requires c =
-    let p = run_plays _ _ _ (bytes t) _ c.steps-part.ensures.bytes (sound t) in
+    let p = run_plays _ _ _ (bytes c) _ c.steps-part.ensures.bytes (sound c) in
     (p.goes.few, p.goes.there)
 
 pub returns : goal.returns
 returns c =
-    rewrite_sound _ _ _ (bytes t) _ c.steps-part.ensures.bytes (sound t) _ _ _ c.anew.ensures
+    rewrite_sound _ _ _ (bytes c) _ c.steps-part.ensures.bytes (sound c) _ _ _ c.anew.ensures

@@ -22,9 +22,9 @@ returns-then-cut c = rw (accepted _ (open_now c.before.before), c.if-cut.true) (
 pub returns-then-writer : goal.returns-then-writer
 unfolding commit_turn commit_flight
 returns-then-writer c = let w = sym c.writer.ensures ∙ c.if-writer.true in
-    rw (accepted _ (open_now c.before), c.if-cut.false, w, c.at_stage-slot.ensures) (refl, c.send.ensures)
+    rw (accepted _ (open_now c.before.before.before.before.before.before), c.if-cut.false, w, c.at_stage-slot.ensures) (refl, c.send.ensures)
 
 pub returns : goal.returns
 unfolding commit_turn commit_flight
 returns c = let w = sym c.writer.ensures ∙ c.if-writer.false in
-    rw (accepted _ (open_now c.before), c.if-cut.false, w, c.at_stage-slot-2.ensures) (refl, refl)
+    rw (accepted _ (open_now c.before.before.before.before), c.if-cut.false, w, c.at_stage-slot-2.ensures) (refl, refl)

@@ -2,7 +2,7 @@
 -- Assumes nothing.
 use mathlib.Core.Path.{◌≡◌, sym, ap₂, ◌∙◌}
 use mathlib.Core.Bool.{Bool, true, not, ◌||◌}
-use borrow.Author.Tests.{eq-eqb, ne_eqb, not-true, not-false}
+use borrow.Author.Tests.{eq-eqb, ne_eqb}
 use Rattle.tables.proofs.Tests.{Passed, Fails, here, later, accepted, refused}
 use Rattle.group.specs.State.{in_stage, voting}
 use Rattle.decide.specs.Decide.{decide_tests, refused_by, lacking, decide_turn}
@@ -24,11 +24,11 @@ asked c = c.ready.ensures ∙ ap₂ (λ (a b : Bool). a || not b) c.tagged-no.en
 
 not_ready : (c : Then-not-ready) → (let a = c.args in Fails (decide_tests a.slot a.nodes a.flight.now a.t) 24)
 unfolding decide_tests
-not_ready c = later (voting_now c.before.before.before.before) (here (sym (asked c.before) ∙ not-true _ c.if-not-ready.true))
+not_ready c = later (voting_now c.before.before.before.before) (here (sym (asked c.before) ∙ c.if-not-ready.true))
 
 ready_now : (c : Else-not-ready) → (let a = c.args in Passed (decide_tests a.slot a.nodes a.flight.now a.t))
 unfolding decide_tests
-ready_now c = (voting_now c.before.before.before.before, (sym (asked c.before) ∙ not-false _ c.if-not-ready.false, tt))
+ready_now c = (voting_now c.before.before.before.before, (sym (asked c.before) ∙ c.if-not-ready.false, tt))
 
 pub returns-then-stage_number-ne-VOTING : goal.returns-then-stage_number-ne-VOTING
 returns-then-stage_number-ne-VOTING c = rw (refused (not_voting c.before)) c.refused.ensures
@@ -42,9 +42,9 @@ returns-then-cut c = rw (accepted _ (ready_now c.before.before), c.if-cut.true) 
 pub returns-then-no : goal.returns-then-no
 unfolding decide_turn refused_by
 returns-then-no c = let e = sym c.tagged-no.ensures ∙ c.if-no.true in
-    rw (accepted _ (ready_now c.before), c.if-cut.false, e, c.at_stage-slot.ensures)
+    rw (accepted _ (ready_now c.before.before.before), c.if-cut.false, e, c.at_stage-slot.ensures)
 
 pub returns : goal.returns
 unfolding decide_turn refused_by
 returns c = let e = sym c.tagged-no.ensures ∙ c.if-no.false in
-    rw (accepted _ (ready_now c.before), c.if-cut.false, e, c.at_stage-slot-2.ensures, c.final_number-k.ensures)
+    rw (accepted _ (ready_now c.before.before.before.before), c.if-cut.false, e, c.at_stage-slot-2.ensures, c.final_number-k.ensures)

@@ -21,11 +21,9 @@ to_return-requires c =
 
 pub to_give_up-requires : goal.to_give_up-requires
 to_give_up-requires c =
-    let w = c.before.before in
-    let e = w.whole.ensures in
-    (w.before.before.before.before.requires, fine w.before, rw e at c.if-k-le5.false, rw e at c.if-k-le9.true)
+    let e = c.whole-k.ensures in
+    (c.requires, fine c.before, rw e at c.if-k-le5.false, rw e at c.if-k-le9.true)
 
 pub to_abandon-requires : goal.to_abandon-requires
 to_abandon-requires c =
-    let w = c.before.before in
-    (w.before.before.before.before.requires, fine w.before, rw w.whole.ensures at c.if-k-le9.false)
+    (c.requires, fine c.before, rw c.whole-k.ensures at c.if-k-le9.false)

@@ -2,18 +2,20 @@
 -- Assumes nothing.
 use mathlib.Core.Path.{◌≡◌, sym, ◌∙◌}
 use mathlib.Core.Bool.{true}
-use borrow.Author.Tests.{not-true, not-false}
+use borrow.Author.Tests.{not-true}
 use Rattle.whole.specs.Whole.{counts_sound, transaction_sound, whole}
 use Rattle.whole.proofs.Laws.{counts_in}
+use mathlib.Core.Path.{ap}
+use mathlib.Core.Bool.{not}
 use Rattle.judge.proofs.whole.Goals as goal
 use Rattle.judge.proofs.whole.Goals.{Else-not-counts_sound}
 
 counted : (c : Else-not-counts_sound) → counts_sound c.args.g.nodes c.args.g.cells ≡ true
-counted c = sym c.counts_sound.ensures ∙ not-false _ c.if-not-counts_sound.false
+counted c = sym c.counts_sound.ensures ∙ c.if-not-counts_sound.false
 
 pub returns-then-not-counts_sound : goal.returns-then-not-counts_sound
 unfolding whole
-returns-then-not-counts_sound c = rw (← c.counts_sound.ensures, not-true c.counts_sound.result c.if-not-counts_sound.true)
+returns-then-not-counts_sound c = rw (← c.counts_sound.ensures, not-true c.counts_sound.result (ap not c.if-not-counts_sound.true))
 
 pub masks_sound-requires : goal.masks_sound-requires
 masks_sound-requires c = counts_in _ _ (counted c.before.before.before)
@@ -30,5 +32,4 @@ nodes_sound-requires c = counts_in _ _ (counted c.before.before.before.before.be
 pub returns : goal.returns
 unfolding whole transaction_sound
 returns c =
-    let m = c.before.before.before.before.before in
-    rw (c.nodes_sound.ensures, c.chains_sound.ensures, c.transactions_sound.ensures, c.notes_sound-2.ensures, c.notes_sound.ensures, c.flight_sound.ensures, m.masks-sound.ensures, counted m.before.before.before.before)
+    rw (c.nodes_sound.ensures, c.chains_sound.ensures, c.transactions_sound.ensures, c.notes_sound-2.ensures, c.notes_sound.ensures, c.flight_sound.ensures, c.masks_sound.ensures, counted c.before.before.before.before)

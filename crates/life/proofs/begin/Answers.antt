@@ -16,7 +16,5 @@ returns-then-cut c =
 
 pub returns : goal.returns
 returns c =
-    let o = c.before.before in
-    let i = o.before.before in
-    begin_whole _ _ _ _ _ _ _ _ i.before.stage-number.ensures i.if1.false o.before.if2.false o.if3.false _ c.opened-slot.ensures
+    begin_whole _ _ _ _ _ _ _ _ c.stage_number-stage.ensures c.if-stage-ne-UNUSED.false c.if-value-gt1.false c.if-cut.false _ c.opened-slot.ensures
     c.done.ensures _ c.clear.ensures _ c.clear-2.ensures

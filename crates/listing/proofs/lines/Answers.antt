@@ -46,7 +46,7 @@ shape_of-out-in_default c = gone_size _ _ _ _ _ _ _ _ _ _ c.loop-i.invariant
 
 pub returns-in_default : goal.returns-in_default
 returns-in_default c =
-    taken_never _ _ (there l) (sym (ap taken_of c.enum_told-1.given.1) ∙ c.step_at.ensures)
+    taken_never _ _ (there c) (sym (ap taken_of c.enum_told-1.given.1) ∙ c.step_at.ensures)
 
 pub act-turn-requires : goal.act-turn-requires
 unfolding at
@@ -63,7 +63,7 @@ answered :
 unfolding at
 answered c =
     ap (λ (o : Stepped). o.answer)
-    (stepped c.args.g _ _ _ _ _ _ _ (wholly l) _ _ refl _ (judged c.before.before.before.before.before.before.before.before.before.before.before) c.place_of-t.ensures.0 _ c.place-n.ensures _
+    (stepped c.args.g _ _ _ _ _ _ _ (wholly c) _ _ refl _ (judged c.before.before.before.before.before.before.before.before.before.before.before) c.place_of-t.ensures.0 _ c.place-n.ensures _
     c.counters_at-c.ensures _ _ _ _ _ _ c.act-turn.ensures _ refl _ refl
     ∙ ap₂ step_of c.loop-i.invariant.state (taken c.before.before.before.before.before.before.before.before.before.before.before))
 
@@ -72,11 +72,9 @@ narrow-requires c = omega (arith, c.loop-i-test.true, c.requires.0.few)
 
 pub put_line-at-requires : goal.put_line-at-requires
 put_line-at-requires c =
-    let l = c.before.before.before.before.before.before.before.before.before.before.before.before.before.before.before in
-    let z = l.before.before.before.before.before.before.before in
-    let n : c.narrow.result ≡ l.before.loop.i = c.narrow.ensures in (
-      place_low _ _ _ _ _ _ z.requires.0 z.requires.1 z.requires.2 _ _ _ _ l.before.loop.invariant,
-      rw n (line_fits _ _ _ _ _ _ z.requires.0 z.requires.1 z.requires.2 _ _ _ _ l.before.loop.invariant l.loop-test.true _ (answered d)),
+    let n : c.narrow.result ≡ c.loop-i.i = c.narrow.ensures in (
+      place_low _ _ _ _ _ _ c.requires.0 c.requires.1 c.requires.2 _ _ _ _ c.loop-i.invariant,
+      rw n (line_fits _ _ _ _ _ _ c.requires.0 c.requires.1 c.requires.2 _ _ _ _ c.loop-i.invariant c.loop-i-test.true _ (answered c)),
     )
 
 pub overflow_add-i : goal.overflow_add-i
@@ -88,13 +86,11 @@ loop-i-smaller c = omega (arith, c.loop-i-test.true)
 pub loop-i-preserved : goal.loop-i-preserved
 unfolding at put
 loop-i-preserved c =
-    let l = c.before.before.before.before.before.before.before.before.before.before.before.before.before.before.before in
-    let z = l.before.before.before.before.before.before.before in
-    let n : c.narrow.result ≡ l.before.loop.i = c.narrow.ensures in
-    gone_next _ _ _ _ _ _ z.requires.0 z.requires.1 z.requires.2 _ _ _ _ l.before.loop.invariant l.loop-test.true _
-    (stepped z.args.g _ _ _ _ _ _ _ (wholly l) _ _ refl _ (judged c.before.before.before.before.before.before.before.before.before.before.before) c.place_of-t.ensures.0 _ c.place-n.ensures _
+    let n : c.narrow.result ≡ c.loop-i.i = c.narrow.ensures in
+    gone_next _ _ _ _ _ _ c.requires.0 c.requires.1 c.requires.2 _ _ _ _ c.loop-i.invariant c.loop-i-test.true _
+    (stepped c.args.g _ _ _ _ _ _ _ (wholly c) _ _ refl _ (judged c.before.before.before.before.before.before.before.before.before.before.before) c.place_of-t.ensures.0 _ c.place-n.ensures _
     c.counters_at-c.ensures _ _ _ _ _ _ c.act-turn.ensures _ refl _ c.put_counters-changed.ensures
-    ∙ ap₂ step_of l.before.loop.invariant.state (taken c.before.before.before.before.before.before.before.before.before.before.before)) _ _ (rw n at c.put_line-at.ensures)
+    ∙ ap₂ step_of c.loop-i.invariant.state (taken c.before.before.before.before.before.before.before.before.before.before.before)) _ _ (rw n at c.put_line-at.ensures)
 
 pub shape_of-out : goal.shape_of-out
 shape_of-out c = gone_size _ _ _ _ _ _ _ _ _ _ c.loop-i.invariant

@@ -5,8 +5,7 @@ use Rattle.listing.proofs.put_line.Goals as goal
 
 pub returns-then-write : goal.returns-then-write
 returns-then-write c =
-    let r = c.before in
-    line_put _ _ _ _ _ r.reply-of.ensures _ c.if-write.true r.before.before.requires.1 _ _ c.line.ensures
+    line_put _ _ _ _ _ c.reply_of-w.ensures _ c.if-write.true c.requires.1 _ _ c.line.ensures
 
 pub returns-else-write : goal.returns-else-write
 returns-else-write c = line_count _ _ _ _ _ c.reply_of-w.ensures _ c.if-write.false _ c.line_size.ensures.0

@@ -2,7 +2,6 @@
 -- Assumes nothing.
 use mathlib.Core.Path.{◌≡◌, sym, ap, ◌∙◌}
 use mathlib.Core.Bool.{◌&&◌}
-use borrow.Author.Tests.{not-true, not-false}
 use Rattle.tables.proofs.Tests.{Passed, here}
 use Rattle.group.specs.declared.Note.{Note}
 use Rattle.group.proofs.Turns.{step_refused, step_cut, step_whole, kept_refused, kept_cut, changed_whole}
@@ -12,12 +11,12 @@ use Rattle.read.proofs.hand.Goals as goal
 use Rattle.read.proofs.hand.Goals.{After-spoilt, Else-not-in_stage}
 
 pub returns-then-not-in_stage : goal.returns-then-not-in_stage
-returns-then-not-in_stage c = let f = sym c.before.before.in_stage_lem.ensures ∙ not-true _ c.if-not-in_stage.true in
+returns-then-not-in_stage c = let f = sym c.in_stage.ensures ∙ c.if-not-in_stage.true in
     (step_refused _ _ _ _ _ _ _ (here f) c.refused.ensures, kept_refused _ _ _ _ (here f))
 
 -- past the refusal, the stage is the one needed
 passes : (c : Else-not-in_stage) → Passed (return_tests c.args.slot)
-passes c = (sym c.before.in_stage_lem.ensures ∙ not-false _ c.if-not-in_stage.false, tt)
+passes c = (sym c.in_stage.ensures ∙ c.if-not-in_stage.false, tt)
 
 pub returns-then-cut : goal.returns-then-cut
 returns-then-cut c = let e = c.note_of-v.ensures in

@@ -5,4 +5,4 @@ use Rattle.read.proofs.note_for.Goals as goal
 
 pub returns : goal.returns
 unfolding note_for
-returns c = rw (c.before.value_of_lem.ensures, c.newest-x.ensures, c.stale-stale.ensures)
+returns c = rw (c.value_of-value.ensures, c.newest-x.ensures, c.stale-stale.ensures)

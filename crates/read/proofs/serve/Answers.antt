@@ -1,7 +1,6 @@
 -- `read::serve` meets its contract: refused, cut, a wait, or a note.
 -- Assumes nothing.
 use mathlib.Core.Path.{◌≡◌, sym, ◌∙◌}
-use borrow.Author.Tests.{not-true, not-false}
 use Rattle.tables.proofs.Tests.{Passed, here}
 use Rattle.group.specs.State.{ask_of}
 use Rattle.group.proofs.Turns.{step_refused, step_cut, step_whole}
@@ -11,11 +10,11 @@ use Rattle.read.proofs.serve.Goals as goal
 use Rattle.read.proofs.serve.Goals.{After-blocked, Else-not-in_stage}
 
 pub returns-then-not-in_stage : goal.returns-then-not-in_stage
-returns-then-not-in_stage c = step_refused _ _ _ _ _ _ _ (here (sym c.before.before.in_stage_lem.ensures ∙ not-true _ c.if-not-in_stage.true)) c.refused.ensures
+returns-then-not-in_stage c = step_refused _ _ _ _ _ _ _ (here (sym c.in_stage.ensures ∙ c.if-not-in_stage.true)) c.refused.ensures
 
 -- past the refusal, the stage is the one needed
 passes : (c : Else-not-in_stage) → Passed (serve_tests c.args.slot)
-passes c = (sym c.before.in_stage_lem.ensures ∙ not-false _ c.if-not-in_stage.false, tt)
+passes c = (sym c.in_stage.ensures ∙ c.if-not-in_stage.false, tt)
 
 pub returns-then-cut : goal.returns-then-cut
 returns-then-cut c = let s = c.read_at-s.ensures in

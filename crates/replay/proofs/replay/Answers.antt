@@ -19,8 +19,8 @@ sound : (c : In_default) → Stands c.args.file.now c.before.before.before.«ope
 sound c = opened_sound _ _ _ (bytes c) c.enum_told-1.given.1
 
 pub run-requires : goal.run-requires
-run-requires c = run_plays _ _ _ (bytes t) _ c.steps-part.ensures.bytes (sound t)
+run-requires c = run_plays _ _ _ (bytes c) _ c.steps-part.ensures.bytes (sound c)
 
 pub returns : goal.returns
 returns c =
-    text_sound _ _ _ (bytes t) _ c.steps-part.ensures.bytes (sound t) _ _ _ c.run.ensures
+    text_sound _ _ _ (bytes c) _ c.steps-part.ensures.bytes (sound c) _ _ _ c.run.ensures

@@ -10,6 +10,5 @@ act-turn-requires c =
 
 pub returns : goal.returns
 returns c =
-    let d = c.before.before.before.before.before.before.before in
-    put_back_lem _ _ _ _ _ _ _ d.before.before.slot_at.ensures.0 _ d.before.place.ensures _ d.counters-at.ensures _ _ _ _ _ c.act-turn.ensures _
+    put_back_lem _ _ _ _ _ _ _ c.slot_at-slot.ensures.0 _ c.place-n.ensures _ c.counters_at-c.ensures _ _ _ _ _ c.act-turn.ensures _
     c.put_slot-slots.ensures _ c.put_counters-counters.ensures

@@ -16,6 +16,5 @@ returns-then-cut c =
 
 pub returns : goal.returns
 returns c =
-    let b = c.before.before in
-    advance_whole _ _ _ _ _ _ _ b.before.busy.ensures b.if1.false c.if-c.false c.if-cut.false _
+    advance_whole _ _ _ _ _ _ _ c.busy.ensures c.if-busy.false c.if-c.false c.if-cut.false _
     c.committed.ensures c.done.ensures

@@ -22,20 +22,19 @@ returns-then-tag-ne-TO_APPLY c =
 
 pub returns-then-cut : goal.returns-then-cut
 returns-then-cut c =
-    apply_cut _ _ _ _ _ _ _ _ _ _ _ _ (found c.before.before.before) _ c.tag.ensures c.if-tag-ne-TO_APPLY.false c.if-cut.true
+    apply_cut _ _ _ _ _ _ _ _ _ _ _ _ (found c.before.before.before.before.before) _ c.tag.ensures c.if-tag-ne-TO_APPLY.false c.if-cut.true
     c.cut_still.ensures
 
 pub store-requires : goal.store-requires
 store-requires c =
     let p = c.requires in
-    (p.0, (found f).2, p.1, λ i h. p.2 _ i (found f).2 h)
+    (p.0, (found c.before.before.before.before.before.before).2, p.1, λ i h. p.2 _ i (found c.before.before.before.before.before.before).2 h)
 
 pub enter-requires : goal.enter-requires
 enter-requires c =
-    ((found f).2, c.requires.1)
+    ((found c.before.before.before.before.before.before.before.before).2, c.requires.1)
 
 pub returns : goal.returns
 returns c =
-    let t = c.before.before in
-    apply_whole _ _ _ _ _ _ _ _ _ _ _ _ (found t.before.before.before) _ t.tag.ensures c.if-tag-ne-TO_APPLY.false c.if-cut.false _
+    apply_whole _ _ _ _ _ _ _ _ _ _ _ _ (found c.before.before.before.before.before.before.before.before.before.before.before) _ c.tag.ensures c.if-tag-ne-TO_APPLY.false c.if-cut.false _
     c.committed.ensures c.done.ensures _ c.enter.ensures _ c.store.ensures

@@ -1,25 +1,22 @@
 -- `settle::closer` meets its contract: not unfinished, nothing found before, a smaller number, or none smaller.
 -- Assumes nothing.
 use Rattle.settle.proofs.Laws.{turned_not, turned_first, turned_less, turned_stays}
+use mathlib.Core.Path.{ap}
+use mathlib.Core.Bool.{not}
 use Rattle.settle.proofs.closer.Goals as goal
 
 pub returns-then-not-unfinished : goal.returns-then-not-unfinished
 returns-then-not-unfinished c =
-    turned_not _ _ _ c.args.best c.requires.2 _ c.unfinished.ensures c.if-not-unfinished.true
+    turned_not _ _ _ c.args.best c.requires.2 _ c.unfinished.ensures (ap not c.if-not-unfinished.true)
 
 pub returns-then-k-number : goal.returns-then-k-number
 returns-then-k-number c =
-    let k = c.before.before in
-    let u = k.before.before in
-    turned_less _ _ _ _ u.before.requires.2 _ u.unfinished.ensures k.before.if1.false _ k.number.ensures _ _ c.best-1.given.1 c.if-k-number.true
+    turned_less _ _ _ _ c.requires.2 _ c.unfinished.ensures (ap not c.if-not-unfinished.false) _ c.number-k.ensures _ _ c.best-1.given.1 c.if-k-number.true
 
 pub returns-else-k-number : goal.returns-else-k-number
 returns-else-k-number c =
-    let k = c.before.before in
-    let u = k.before.before in
-    turned_stays _ _ _ _ u.before.requires.2 _ u.unfinished.ensures k.before.if1.false _ k.number.ensures _ _ c.best-1.given.1 c.if-k-number.false
+    turned_stays _ _ _ _ c.requires.2 _ c.unfinished.ensures (ap not c.if-not-unfinished.false) _ c.number-k.ensures _ _ c.best-1.given.1 c.if-k-number.false
 
 pub returns-in-Nothing : goal.returns-in-Nothing
 returns-in-Nothing c =
-    let u = c.before.before in
-    turned_first _ _ _ _ u.before.requires.2 _ u.unfinished.ensures c.if-not-unfinished.false _ c.number-k.ensures c.enum_told-1.given.1
+    turned_first _ _ _ _ c.requires.2 _ c.unfinished.ensures (ap not c.if-not-unfinished.false) _ c.number-k.ensures c.enum_told-1.given.1

@@ -11,25 +11,22 @@ use Rattle.desk.proofs.by_kind.to_abandon.Goals.{In_default}
 pub learn-requires : goal.learn-requires
 unfolding at
 learn-requires c =
-    let w = c.before in
-    let p = w.before.before.requires in
-    let e = sym w.whole.ensures ∙ c.in-10.keys1 in
+    let p = c.requires in
+    let e = sym c.whole-k.ensures ∙ c.in-10.keys1 in
     (slot_in _ _ _ p.1 10 e refl, node_small _ _ _ p.1 10 e p.0.few-nodes refl)
 
 pub apply-requires : goal.apply-requires
 unfolding at
 apply-requires c =
-    let w = c.before in
-    let p = w.before.before.requires in
-    let e = sym w.whole.ensures ∙ c.in-10.keys2 in
+    let p = c.requires in
+    let e = sym c.whole-k.ensures ∙ c.in-10.keys2 in
     (p.0.few-cells, node_small _ _ _ p.1 11 e p.0.few-nodes refl, p.0.values)
 
 pub advance-requires : goal.advance-requires
 unfolding at
 advance-requires c =
-    let w = c.before in
-    let p = w.before.before.requires in
-    let e = sym w.whole.ensures ∙ c.in-10.keys3 in
+    let p = c.requires in
+    let e = sym c.whole-k.ensures ∙ c.in-10.keys3 in
     (node_small _ _ _ p.1 12 e p.0.few-nodes refl)
 
 -- the kind that is left
@@ -41,20 +38,16 @@ is_abandon c =
 
 pub returns-in-10 : goal.returns-in-10
 returns-in-10 c =
-    let w = c.before in
-    act_learn _ _ _ _ _ _ _ _ _ _ w.before.before.requires.1 _ w.before.is_cut.ensures (sym w.whole.ensures ∙ c.in-10.keys1) _ _ c.learn.ensures
+    act_learn _ _ _ _ _ _ _ _ _ _ c.requires.1 _ c.is_cut-cut.ensures (sym c.whole-k.ensures ∙ c.in-10.keys1) _ _ c.learn.ensures
 
 pub returns-in-11 : goal.returns-in-11
 returns-in-11 c =
-    let w = c.before in
-    act_apply _ _ _ _ _ _ _ _ _ _ w.before.before.requires.1 _ w.before.is_cut.ensures (sym w.whole.ensures ∙ c.in-10.keys2) _ _ _ c.apply.ensures
+    act_apply _ _ _ _ _ _ _ _ _ _ c.requires.1 _ c.is_cut-cut.ensures (sym c.whole-k.ensures ∙ c.in-10.keys2) _ _ _ c.apply.ensures
 
 pub returns-in-12 : goal.returns-in-12
 returns-in-12 c =
-    let w = c.before in
-    act_advance _ _ _ _ _ _ _ _ _ _ w.before.before.requires.1 _ w.before.is_cut.ensures (sym w.whole.ensures ∙ c.in-10.keys3) _ c.advance.ensures
+    act_advance _ _ _ _ _ _ _ _ _ _ c.requires.1 _ c.is_cut-cut.ensures (sym c.whole-k.ensures ∙ c.in-10.keys3) _ c.advance.ensures
 
 pub returns-in_default : goal.returns-in_default
 returns-in_default c =
-    let w = c.before in
-    act_abandon _ _ _ _ _ _ _ _ _ _ w.before.before.requires.1 _ w.before.is_cut.ensures (is_abandon m) _ c.abandon.ensures
+    act_abandon _ _ _ _ _ _ _ _ _ _ c.requires.1 _ c.is_cut-cut.ensures (is_abandon c) _ c.abandon.ensures

@@ -11,25 +11,22 @@ use Rattle.desk.proofs.by_kind.to_give_up.Goals.{In_default}
 pub commit-requires : goal.commit-requires
 unfolding at
 commit-requires c =
-    let w = c.before in
-    let p = w.before.before.requires in
-    let e = sym w.whole.ensures ∙ c.in-6.keys1 in
+    let p = c.requires in
+    let e = sym c.whole-k.ensures ∙ c.in-6.keys1 in
     (p.0.few-nodes, p.0.few-cells, slot_in _ _ _ p.1 6 e refl)
 
 pub prepare-requires : goal.prepare-requires
 unfolding at
 prepare-requires c =
-    let w = c.before in
-    let p = w.before.before.requires in
-    let e = sym w.whole.ensures ∙ c.in-6.keys2 in
+    let p = c.requires in
+    let e = sym c.whole-k.ensures ∙ c.in-6.keys2 in
     (p.0.few-cells, slot_in _ _ _ p.1 7 e refl, node_small _ _ _ p.1 7 e p.0.few-nodes refl)
 
 pub decide-requires : goal.decide-requires
 unfolding at
 decide-requires c =
-    let w = c.before in
-    let p = w.before.before.requires in
-    let e = sym w.whole.ensures ∙ c.in-6.keys3 in
+    let p = c.requires in
+    let e = sym c.whole-k.ensures ∙ c.in-6.keys3 in
     (p.0.few-nodes, slot_in _ _ _ p.1 8 e refl)
 
 -- the kind that is left
@@ -41,20 +38,16 @@ is_give_up c =
 
 pub returns-in-6 : goal.returns-in-6
 returns-in-6 c =
-    let w = c.before in
-    act_commit _ _ _ _ _ _ _ _ _ _ w.before.before.requires.1 _ w.before.is_cut.ensures (sym w.whole.ensures ∙ c.in-6.keys1) _ _ c.commit.ensures
+    act_commit _ _ _ _ _ _ _ _ _ _ c.requires.1 _ c.is_cut-cut.ensures (sym c.whole-k.ensures ∙ c.in-6.keys1) _ _ c.commit.ensures
 
 pub returns-in-7 : goal.returns-in-7
 returns-in-7 c =
-    let w = c.before in
-    act_prepare _ _ _ _ _ _ _ _ _ _ w.before.before.requires.1 _ w.before.is_cut.ensures (sym w.whole.ensures ∙ c.in-6.keys2) _ _ c.prepare.ensures
+    act_prepare _ _ _ _ _ _ _ _ _ _ c.requires.1 _ c.is_cut-cut.ensures (sym c.whole-k.ensures ∙ c.in-6.keys2) _ _ c.prepare.ensures
 
 pub returns-in-8 : goal.returns-in-8
 returns-in-8 c =
-    let w = c.before in
-    act_decide _ _ _ _ _ _ _ _ _ _ w.before.before.requires.1 _ w.before.is_cut.ensures (sym w.whole.ensures ∙ c.in-6.keys3) _ c.decide.ensures
+    act_decide _ _ _ _ _ _ _ _ _ _ c.requires.1 _ c.is_cut-cut.ensures (sym c.whole-k.ensures ∙ c.in-6.keys3) _ c.decide.ensures
 
 pub returns-in_default : goal.returns-in_default
 returns-in_default c =
-    let w = c.before in
-    act_give_up _ _ _ _ _ _ _ _ _ _ w.before.before.requires.1 _ w.before.is_cut.ensures (is_give_up m) _ c.give_up.ensures
+    act_give_up _ _ _ _ _ _ _ _ _ _ c.requires.1 _ c.is_cut-cut.ensures (is_give_up c) _ c.give_up.ensures

@@ -11,23 +11,20 @@ use Rattle.desk.proofs.by_kind.to_return.Goals.{In_default}
 pub begin-requires : goal.begin-requires
 unfolding at
 begin-requires c =
-    let w = c.before in
-    slot_in _ _ _ w.before.before.requires.1 1 (sym w.whole.ensures ∙ c.in-1.keys1) refl
+    slot_in _ _ _ c.requires.1 1 (sym c.whole-k.ensures ∙ c.in-1.keys1) refl
 
 pub write-requires : goal.write-requires
 unfolding at
 write-requires c =
-    let w = c.before in
-    let p = w.before.before.requires in
-    let e = sym w.whole.ensures ∙ c.in-1.keys2 in
+    let p = c.requires in
+    let e = sym c.whole-k.ensures ∙ c.in-1.keys2 in
     (slot_in _ _ _ p.1 2 e refl, cell_small _ _ _ p.1 2 e p.0.few-cells refl)
 
 pub ask-requires : goal.ask-requires
 unfolding at
 ask-requires c =
-    let w = c.before in
-    let p = w.before.before.requires in
-    let e = sym w.whole.ensures ∙ c.in-1.keys3 in
+    let p = c.requires in
+    let e = sym c.whole-k.ensures ∙ c.in-1.keys3 in
     let t = slot_in _ _ _ p.1 3 e refl in
     let d = cell_small _ _ _ p.1 3 e p.0.few-cells refl in
     (t, node_small _ _ _ p.1 3 e p.0.few-nodes refl, d, p.0.origin, p.0.values _ _ t d)
@@ -47,25 +44,20 @@ hand-requires c =
 
 pub returns-in-1 : goal.returns-in-1
 returns-in-1 c =
-    let w = c.before in
-    act_begin _ _ _ _ _ _ _ _ _ _ w.before.before.requires.1 _ w.before.is_cut.ensures (sym w.whole.ensures ∙ c.in-1.keys1) _ _ _ c.begin.ensures
+    act_begin _ _ _ _ _ _ _ _ _ _ c.requires.1 _ c.is_cut-cut.ensures (sym c.whole-k.ensures ∙ c.in-1.keys1) _ _ _ c.begin.ensures
 
 pub returns-in-2 : goal.returns-in-2
 returns-in-2 c =
-    let w = c.before in
-    act_write _ _ _ _ _ _ _ _ _ _ w.before.before.requires.1 _ w.before.is_cut.ensures (sym w.whole.ensures ∙ c.in-1.keys2) _ _ c.write.ensures
+    act_write _ _ _ _ _ _ _ _ _ _ c.requires.1 _ c.is_cut-cut.ensures (sym c.whole-k.ensures ∙ c.in-1.keys2) _ _ c.write.ensures
 
 pub returns-in-3 : goal.returns-in-3
 returns-in-3 c =
-    let w = c.before in
-    act_ask _ _ _ _ _ _ _ _ _ _ w.before.before.requires.1 _ w.before.is_cut.ensures (sym w.whole.ensures ∙ c.in-1.keys3) _ c.ask.ensures
+    act_ask _ _ _ _ _ _ _ _ _ _ c.requires.1 _ c.is_cut-cut.ensures (sym c.whole-k.ensures ∙ c.in-1.keys3) _ c.ask.ensures
 
 pub returns-in-4 : goal.returns-in-4
 returns-in-4 c =
-    let w = c.before in
-    act_serve _ _ _ _ _ _ _ _ _ _ w.before.before.requires.1 _ w.before.is_cut.ensures (sym w.whole.ensures ∙ c.in-1.keys4) _ c.serve.ensures
+    act_serve _ _ _ _ _ _ _ _ _ _ c.requires.1 _ c.is_cut-cut.ensures (sym c.whole-k.ensures ∙ c.in-1.keys4) _ c.serve.ensures
 
 pub returns-in_default : goal.returns-in_default
 returns-in_default c =
-    let w = c.before in
-    act_return _ _ _ _ _ _ _ _ _ _ w.before.before.requires.1 _ w.before.is_cut.ensures (is_return m) _ _ c.hand.ensures
+    act_return _ _ _ _ _ _ _ _ _ _ c.requires.1 _ c.is_cut-cut.ensures (is_return c) _ _ c.hand.ensures

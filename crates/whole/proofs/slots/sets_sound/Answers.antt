@@ -13,4 +13,4 @@ loop-c-preserved c = turned c.loop-c.invariant c.loop-c-test.true c.set_sound-ok
 
 pub returns : goal.returns
 unfolding sets_sound
-returns c = rw (← c.before.before.is_fixed_lem.ensures) (ended c.loop-c.invariant c.loop-c-test.false)
+returns c = rw (← c.is_fixed-fixed.ensures) (ended c.loop-c.invariant c.loop-c-test.false)
