@@ -32,4 +32,4 @@ nodes_sound-requires c = counts_in _ _ (counted c.before.before.before.before.be
 pub returns : goal.returns
 unfolding whole transaction_sound
 returns c =
-    rw (c.nodes_sound.ensures, c.chains_sound.ensures, c.transactions_sound.ensures, c.notes_sound-2.ensures, c.notes_sound.ensures, c.flight_sound.ensures, c.masks_sound.ensures, counted c.before.before.before.before)
+    rw (c.nodes_sound.ensures, c.chains_sound.ensures, c.transactions_sound.ensures, c.notes_sound-2.ensures, c.notes_sound.ensures, c.flight_sound.ensures, c.masks_sound.ensures, counted c.before.before.before.before.before.before.before.before.before.before.before.before.before)

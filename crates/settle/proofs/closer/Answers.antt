@@ -11,12 +11,12 @@ returns-then-not-unfinished c =
 
 pub returns-then-k-number : goal.returns-then-k-number
 returns-then-k-number c =
-    turned_less _ _ _ _ c.requires.2 _ c.unfinished.ensures (ap not c.if-not-unfinished.false) _ c.number-k.ensures _ _ c.best-1.given.1 c.if-k-number.true
+    turned_less _ _ _ _ c.requires.2 _ c.unfinished.ensures (ap not c.if-not-unfinished.false) _ c.number-k.ensures _ _ c.in-At.is c.if-k-number.true
 
 pub returns-else-k-number : goal.returns-else-k-number
 returns-else-k-number c =
-    turned_stays _ _ _ _ c.requires.2 _ c.unfinished.ensures (ap not c.if-not-unfinished.false) _ c.number-k.ensures _ _ c.best-1.given.1 c.if-k-number.false
+    turned_stays _ _ _ _ c.requires.2 _ c.unfinished.ensures (ap not c.if-not-unfinished.false) _ c.number-k.ensures _ _ c.in-At.is c.if-k-number.false
 
 pub returns-in-Nothing : goal.returns-in-Nothing
 returns-in-Nothing c =
-    turned_first _ _ _ _ c.requires.2 _ c.unfinished.ensures (ap not c.if-not-unfinished.false) _ c.number-k.ensures c.enum_told-1.given.1
+    turned_first _ _ _ _ c.requires.2 _ c.unfinished.ensures (ap not c.if-not-unfinished.false) _ c.number-k.ensures c.in-Nothing.is

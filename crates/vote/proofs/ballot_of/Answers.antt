@@ -8,4 +8,4 @@ use Rattle.vote.specs.Vote.{vote_for}
 use Rattle.vote.proofs.ballot_of.Goals as goal
 
 pub returns-in-Number : goal.returns-in-Number
-returns-in-Number c = sym (ap (λ (p : Proposal). vote_for none (result_of p)) c.p-1.given.1)
+returns-in-Number c = sym (ap (λ (p : Proposal). vote_for none (result_of p)) c.in-Number.is)

@@ -27,9 +27,9 @@ returns-then-outdated c = no_2 _ _ _ _ _ _ _ _ _ _ (no_conflict c.before.before.
 
 pub returns-then-full : goal.returns-then-full
 unfolding full
-returns-then-full c = no_3 _ _ _ _ _ _ _ _ _ _ (no_conflict c.before.before.before.before.before) (sym (test_2 c.before) ∙ c.if-outdated.false) (sym c.full.ensures ∙ c.if-full.true)
+returns-then-full c = no_3 _ _ _ _ _ _ _ _ _ _ (no_conflict c.before.before.before.before.before) (sym (test_2 c.before.before.before) ∙ c.if-outdated.false) (sym c.full.ensures ∙ c.if-full.true)
 
 pub returns : goal.returns
 unfolding full
 returns c = c.ballot_of.ensures ∙ ap (λ (p : Option ℕ). vote_for none p) c.propose-p.ensures
-    ∙ by_proposal _ _ _ _ _ _ _ _ _ _ (no_conflict c.before.before.before.before.before.before.before) (sym (test_2 c.before) ∙ c.if-outdated.false) (sym c.full.ensures ∙ c.if-full.false)
+    ∙ by_proposal _ _ _ _ _ _ _ _ _ _ (no_conflict c.before.before.before.before.before.before.before) (sym (test_2 c.before.before.before.before.before) ∙ c.if-outdated.false) (sym c.full.ensures ∙ c.if-full.false)

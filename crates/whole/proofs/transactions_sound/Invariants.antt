@@ -8,7 +8,7 @@ use Rattle.whole.proofs.Laws.{SoFar}
 use Rattle.whole.proofs.transactions_sound.Given as goal
 
 abbrev pub invariant-loop-t : goal.invariant-loop-t
-invariant-loop-t l = SoFar 32 (λ l.t. slot_whole l.nodes l.cells l.masks (at l.slots l.t no_slot) l.flight l.writes l.reads l.t) l.ok l.t
+invariant-loop-t l = SoFar 32 (λ t. slot_whole l.nodes l.cells l.masks (at l.slots t no_slot) l.flight l.writes l.reads t) l.ok l.t
 
 abbrev pub decreases-loop-t : goal.decreases-loop-t
 decreases-loop-t l = 32 - l.t
