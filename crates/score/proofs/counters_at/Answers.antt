@@ -11,8 +11,8 @@ use Rattle.score.proofs.counters_at.Goals as goal
 pub returns-then-n-ge8 : goal.returns-then-n-ge8
 returns-then-n-ge8 c =
     let a = c.args in
-    let l : length a.t1 ≤ a.n = omega arith in
-    sym (at_past a.t1 a.n _ l)
+    let l : length a.counters ≤ a.n = omega arith in
+    sym (at_past a.counters a.n _ l)
 
 pub returns : goal.returns
 unfolding at

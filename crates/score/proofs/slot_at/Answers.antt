@@ -11,8 +11,8 @@ use Rattle.score.proofs.slot_at.Goals as goal
 pub returns-then-t-ge32 : goal.returns-then-t-ge32
 returns-then-t-ge32 c =
     let a = c.args in
-    let l : length a.t1 ≤ a.t = omega arith in
-    (c.no_slot.ensures ∙ sym (at_past a.t1 a.t _ l), λ h. c.no_slot.ensures)
+    let l : length a.slots ≤ a.t = omega arith in
+    (c.no_slot.ensures ∙ sym (at_past a.slots a.t _ l), λ h. c.no_slot.ensures)
 
 pub returns : goal.returns
 unfolding at
