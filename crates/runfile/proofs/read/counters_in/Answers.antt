@@ -1,10 +1,8 @@
 -- `runfile::read::counters_in` meets its contract.
 -- Assumes nothing.
-use mathlib.Core.Path.{sym, ap, ◌∙◌}
-use Prim.Native.Nat.{◌-◌}
+use mathlib.Core.Path.{sym}
 use native.Mathlib.Omega.{arith}
 use Rattle.tables.specs.Table.{put}
-use Rattle.little.specs.Little.{result_of}
 use Rattle.runfile.proofs.Sections.{counters_start, counters_turn, counters_cut, counters_end}
 use Rattle.runfile.proofs.read.counters_in.Goals as goal
 
@@ -19,7 +17,7 @@ overflow_add-i c = omega arith
 
 pub returns-in_default : goal.returns-in_default
 returns-in_default c =
-    let e = sym c.read.ensures ∙ ap result_of c.enum_told-1.given.1 in
+    let e = sym c.in_default.ensures in
     counters_cut _ _ c.requires _ _ c.loop-i.invariant c.loop-i-test.true e
 
 pub offset_bounds-counters-i : goal.offset_bounds-counters-i
@@ -37,7 +35,7 @@ loop-i-smaller c = omega arith
 pub loop-i-preserved : goal.loop-i-preserved
 unfolding put
 loop-i-preserved c =
-    let e = sym c.read.ensures ∙ ap result_of c.x-1.given.1 in
+    let e = sym c.in-Is.ensures in
     counters_turn _ _ c.requires _ _ c.loop-i.invariant _ c.loop-i-test.true e
 
 pub returns : goal.returns
