@@ -1,7 +1,6 @@
 -- `runwrite::put::put_counters` meets its contract.
 -- Assumes nothing.
 use mathlib.Core.Path.{refl, ◌∙◌}
-use Prim.Native.Nat.{◌-◌}
 use native.Mathlib.Omega.{arith}
 use Rattle.tables.specs.Table.{at}
 use Rattle.runfile.proofs.FileItems.{counter_item}

@@ -1,7 +1,6 @@
 -- `runwrite::put::put_steps` meets its contract.
 -- Assumes nothing.
 use mathlib.Core.Path.{refl, ◌∙◌}
-use Prim.Native.Nat.{◌-◌}
 use native.Mathlib.Omega.{arith}
 use Rattle.tables.specs.Table.{at}
 use Rattle.runfile.proofs.FileItems.{step_item}
@@ -41,8 +40,7 @@ loop-i-smaller c = omega arith
 pub loop-i-preserved : goal.loop-i-preserved
 unfolding at
 loop-i-preserved c =
-    let l = c.before.before.before.before.before in
-    let t = put_turn step_item _ _ _ _ _ _ l.loop.invariant.2 (c.store-in-loop-i.ensures.1
+    let t = put_turn step_item _ _ _ _ _ _ c.loop-i.invariant.2 (c.store-in-loop-i.ensures.1
     ∙ rw (c.store.ensures.1, c.high.ensures, c.low.ensures) (step_stored _ _ _ (omega arith))) in
     (omega arith, t.0, t.1)
 
