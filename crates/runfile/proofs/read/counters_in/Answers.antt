@@ -9,28 +9,10 @@ use Rattle.runfile.proofs.read.counters_in.Goals as goal
 pub loop-i-init : goal.loop-i-init
 loop-i-init c = counters_start _ _ c.requires
 
-pub overflow_mul-i : goal.overflow_mul-i
-overflow_mul-i c = omega arith
-
-pub overflow_add-i : goal.overflow_add-i
-overflow_add-i c = omega arith
-
 pub returns-in_default : goal.returns-in_default
 returns-in_default c =
     let e = sym c.in_default.ensures in
     counters_cut _ _ c.requires _ _ c.loop-i.invariant c.loop-i-test.true e
-
-pub offset_bounds-counters-i : goal.offset_bounds-counters-i
-offset_bounds-counters-i c = omega arith
-
-pub bounds-counters-i : goal.bounds-counters-i
-bounds-counters-i c = omega arith
-
-pub overflow_add-i-in-loop-i : goal.overflow_add-i-in-loop-i
-overflow_add-i-in-loop-i c = omega arith
-
-pub loop-i-smaller : goal.loop-i-smaller
-loop-i-smaller c = omega arith
 
 pub loop-i-preserved : goal.loop-i-preserved
 unfolding put

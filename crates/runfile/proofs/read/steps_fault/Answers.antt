@@ -19,12 +19,6 @@ returns-then-not-fields_sound c =
     steps_bad _ _ _ c.loop-i.invariant.1 _ c.loop-i-test.true e
     (sym c.fields_sound.ensures ∙ c.if-not-fields_sound.true)
 
-pub overflow_add-i : goal.overflow_add-i
-overflow_add-i c = omega arith
-
-pub loop-i-smaller : goal.loop-i-smaller
-loop-i-smaller c = omega arith
-
 pub loop-i-preserved : goal.loop-i-preserved
 loop-i-preserved c =
     let e = sym c.in-Step.ensures in (

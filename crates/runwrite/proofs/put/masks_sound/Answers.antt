@@ -9,20 +9,11 @@ use Rattle.runwrite.proofs.put.masks_sound.Goals as goal
 pub loop-i-init : goal.loop-i-init
 loop-i-init c = (omega arith, every_none _)
 
-pub bounds-masks-i : goal.bounds-masks-i
-bounds-masks-i c = omega arith
-
 pub returns-then-not-mask_sound : goal.returns-then-not-mask_sound
 unfolding at
 returns-then-not-mask_sound c =
     let e = sym c.mask_sound.ensures ∙ c.if-not-mask_sound.true in
     sym (every_not _ _ _ c.loop-i-test.true e)
-
-pub overflow_add-i : goal.overflow_add-i
-overflow_add-i c = omega arith
-
-pub loop-i-smaller : goal.loop-i-smaller
-loop-i-smaller c = omega arith
 
 pub loop-i-preserved : goal.loop-i-preserved
 unfolding at

@@ -11,39 +11,6 @@ use Rattle.runwrite.proofs.put.put_cells.Goals as goal
 pub loop-i-init : goal.loop-i-init
 loop-i-init c = (omega arith, refl, put_none (cell_item 0) _ _ _)
 
-pub bounds-masks-i : goal.bounds-masks-i
-bounds-masks-i c = omega arith
-
-pub overflow_mul-out : goal.overflow_mul-out
-overflow_mul-out c = omega arith
-
-pub overflow_add-out : goal.overflow_add-out
-overflow_add-out c = omega arith
-
-pub bounds-out-start : goal.bounds-out-start
-bounds-out-start c = omega arith
-
-pub overflow_mul-i : goal.overflow_mul-i
-overflow_mul-i c = omega arith
-
-pub overflow_add-start : goal.overflow_add-start
-overflow_add-start c = omega arith
-
-pub overflow_add-start-in-loop-i : goal.overflow_add-start-in-loop-i
-overflow_add-start-in-loop-i c = omega arith
-
-pub offset_bounds-values-i : goal.offset_bounds-values-i
-offset_bounds-values-i c = omega arith
-
-pub bounds-values-i : goal.bounds-values-i
-bounds-values-i c = omega arith
-
-pub overflow_add-i : goal.overflow_add-i
-overflow_add-i c = omega arith
-
-pub loop-i-smaller : goal.loop-i-smaller
-loop-i-smaller c = omega arith
-
 pub loop-i-preserved : goal.loop-i-preserved
 unfolding at
 loop-i-preserved c =

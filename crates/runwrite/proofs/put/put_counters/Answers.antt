@@ -10,24 +10,6 @@ use Rattle.runwrite.proofs.put.put_counters.Goals as goal
 pub loop-i-init : goal.loop-i-init
 loop-i-init c = (omega arith, refl, put_none counter_item _ _ _)
 
-pub overflow_mul-i : goal.overflow_mul-i
-overflow_mul-i c = omega arith
-
-pub overflow_add-i : goal.overflow_add-i
-overflow_add-i c = omega arith
-
-pub offset_bounds-counters-i : goal.offset_bounds-counters-i
-offset_bounds-counters-i c = omega arith
-
-pub bounds-counters-i : goal.bounds-counters-i
-bounds-counters-i c = omega arith
-
-pub overflow_add-i-in-loop-i : goal.overflow_add-i-in-loop-i
-overflow_add-i-in-loop-i c = omega arith
-
-pub loop-i-smaller : goal.loop-i-smaller
-loop-i-smaller c = omega arith
-
 pub loop-i-preserved : goal.loop-i-preserved
 unfolding at
 loop-i-preserved c =

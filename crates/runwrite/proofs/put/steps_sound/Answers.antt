@@ -10,20 +10,11 @@ use Rattle.runwrite.proofs.put.steps_sound.Goals as goal
 pub loop-i-init : goal.loop-i-init
 loop-i-init c = (omega arith, every_none _)
 
-pub bounds-steps-i : goal.bounds-steps-i
-bounds-steps-i c = omega arith
-
 pub returns-then-not-fields_sound : goal.returns-then-not-fields_sound
 unfolding at
 returns-then-not-fields_sound c =
     let e = sym (c.fields_sound.ensures ∙ ap fields_sound c.step_of.ensures) ∙ c.if-not-fields_sound.true in
     sym (every_not _ _ _ c.loop-i-test.true e)
-
-pub overflow_add-i : goal.overflow_add-i
-overflow_add-i c = omega arith
-
-pub loop-i-smaller : goal.loop-i-smaller
-loop-i-smaller c = omega arith
 
 pub loop-i-preserved : goal.loop-i-preserved
 unfolding at
