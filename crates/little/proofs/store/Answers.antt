@@ -18,9 +18,6 @@ bounds-out-at c = omega (arith, fits_true _ _ _ (sym c.fits.ensures ∙ c.if-fit
 pub loop-i-preserved : goal.loop-i-preserved
 loop-i-preserved c = let l = c.loop-i in (omega arith, simp length-set l.invariant.1, l.invariant.2 ∙ rest_next _ _ _ _ _ c.loop-i-test.true)
 
-pub shape_of-out : goal.shape_of-out
-shape_of-out c = c.loop-i.invariant.1
-
 pub returns-after-loop-i : goal.returns-after-loop-i
 returns-after-loop-i c =
     let l = c.loop-i in

@@ -1,7 +1,6 @@
 -- `runfile::read::counters_in` meets its contract.
 -- Assumes nothing.
 use mathlib.Core.Path.{sym}
-use native.Mathlib.Omega.{arith}
 use Rattle.tables.specs.Table.{put}
 use Rattle.runfile.proofs.Sections.{counters_start, counters_turn, counters_cut, counters_end}
 use Rattle.runfile.proofs.read.counters_in.Goals as goal

@@ -17,8 +17,5 @@ loop-i-preserved c =
     let t = put_turn (cell_item 0) _ _ _ _ _ _ c.loop-i.invariant.2 (c.store.ensures.1 ∙ cell_stored c.loop-i.out (c.args.start + 5 * c.loop-i.i) _ _ (omega arith)) in
     (omega arith, t.0, t.1)
 
-pub shape_of-out : goal.shape_of-out
-shape_of-out c = c.loop-i.invariant.1
-
 pub returns : goal.returns
 returns c = put_end (cell_item 0) _ _ _ _ _ _ c.loop-i.invariant.0 c.loop-i-test.false c.loop-i.invariant.2

@@ -16,8 +16,5 @@ loop-i-preserved c =
     let t = put_turn counter_item _ _ _ _ _ _ c.loop-i.invariant.2 (c.store.ensures.1 ∙ counter_stored _ _ _ (omega arith)) in
     (omega arith, t.0, t.1)
 
-pub shape_of-out : goal.shape_of-out
-shape_of-out c = c.loop-i.invariant.1
-
 pub returns : goal.returns
 returns c = put_end counter_item _ _ _ _ _ _ c.loop-i.invariant.0 c.loop-i-test.false c.loop-i.invariant.2

@@ -17,8 +17,5 @@ loop-i-preserved c =
     ∙ rw (c.store.ensures.1, c.high.ensures, c.low.ensures) (step_stored _ _ _ (omega arith))) in
     (omega arith, t.0, t.1)
 
-pub shape_of-out : goal.shape_of-out
-shape_of-out c = c.loop-i.invariant.1
-
 pub returns : goal.returns
 returns c = put_end step_item _ _ _ _ _ _ c.loop-i.invariant.0 c.loop-i-test.false c.loop-i.invariant.2
