@@ -11,7 +11,6 @@ use native.Mathlib.Omega.{arith}
 use lib.Dec.{leb, ltb, lit<}
 use lib.ListN.{length}
 use borrow.Author.Tests.{le-leb, leb-true, ltb-true, not-false}
-use Rattle.tables.specs.Table.{at}
 use Rattle.tables.proofs.Choice.{or_false, and_true}
 use Rattle.kinds.specs.declared.Step.{Step}
 use Rattle.little.specs.Little.{digits}

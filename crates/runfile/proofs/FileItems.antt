@@ -12,7 +12,7 @@ use Rattle.kinds.specs.declared.Step.{Step}
 use Rattle.little.specs.Little.{little, digits}
 use Rattle.little.proofs.Laws.{Bytes, digits_size, little_digits, digits_little, little_low}
 use Rattle.runfile.specs.File.{Cell, read_count, read_counter, read_cell, read_step, cell_bytes, cell_from, step_bytes, step_from, mask_sound, fields_sound}
-use Rattle.runfile.proofs.Items.{Item, read_item, code}
+use Rattle.runfile.proofs.Items.{Item, read_item}
 
 -- ---- the items of the file
 

@@ -2,44 +2,34 @@
 -- Assumes nothing.
 use mathlib.Core.Path.{◌≡◌, sym, ap, ap₂, ◌∙◌}
 use mathlib.Core.Option.{some}
-use Prim.Native.Nat.{ℕ, ◌+◌, ◌*◌, ◌-◌, ◌≤◌, ◌<◌}
+use Prim.Native.Nat.{ℕ, ◌+◌, ◌*◌, ◌<◌}
 use native.Mathlib.Omega.{arith}
 use native.Mathlib.Nat.{sub_self}
 use lib.Dec.{lit<}
-use lib.ListN.{length}
 use Rattle.little.proofs.Laws.{fits_true, number_out, high_none, high_next, high_all, low_next, low_room}
 use Rattle.little.proofs.number_at.Goals as goal
-use Rattle.little.proofs.number_at.Goals.{After-wide, Then-fits}
-
--- where the test passes
-inside : (c : Then-fits) → let a = c.args in (a.k ≤ 4) × (a.at + a.k ≤ length a.s.now)
-inside c = fits_true _ _ _ (sym c.fits.ensures ∙ c.if-fits.true)
-
--- before a turn there is room for one byte more
-small : (c : After-wide) → c.loop-left.x < 16777216
-small c = low_room _ _ _ c.loop-left-test.true (inside c.before).0 c.loop-left.invariant.2
 
 pub loop-left-init : goal.loop-left-init
 loop-left-init c = let a = c.args in (omega arith, sym (high_none a.s.now a.at a.k), rw (sub_self a.k) (lit< tt))
 
 pub overflow_add-at : goal.overflow_add-at
-overflow_add-at c = omega (arith, inside c.before.before)
+overflow_add-at c = omega (arith, fits_true _ _ _ (sym c.fits.ensures ∙ c.if-fits.true))
 
 pub bounds-s-at : goal.bounds-s-at
-bounds-s-at c = omega (arith, inside c.before.before.before)
+bounds-s-at c = omega (arith, fits_true _ _ _ (sym c.fits.ensures ∙ c.if-fits.true))
 
 pub overflow_mul-x : goal.overflow_mul-x
-overflow_mul-x c = omega (arith, small c)
+overflow_mul-x c = omega (arith, low_room _ _ _ c.loop-left-test.true (fits_true _ _ _ (sym c.fits.ensures ∙ c.if-fits.true)).0 c.loop-left.invariant.2)
 
 pub overflow_add-x : goal.overflow_add-x
-overflow_add-x c = omega (arith, small c, c.wide.ensures)
+overflow_add-x c = omega (arith, low_room _ _ _ c.loop-left-test.true (fits_true _ _ _ (sym c.fits.ensures ∙ c.if-fits.true)).0 c.loop-left.invariant.2, c.wide.ensures)
 
 pub loop-left-preserved : goal.loop-left-preserved
 loop-left-preserved c =
     let p : 0 < c.loop-left.left = omega arith in
     let h = c.loop-left.invariant in (
       omega arith,
-      ap₂ (λ (b y : ℕ). b + 256 * y) c.wide.ensures.0 h.1 ∙ sym (high_next _ _ _ _ p h.0 (inside c.before).1),
+      ap₂ (λ (b y : ℕ). b + 256 * y) c.wide.ensures.0 h.1 ∙ sym (high_next _ _ _ _ p h.0 (fits_true _ _ _ (sym c.fits.ensures ∙ c.if-fits.true)).1),
       low_next _ _ _ _ p h.0 c.wide.ensures.1 h.2,
     )
 

@@ -1,31 +1,22 @@
 -- `little::store` meets its contract.
 -- Assumes nothing.
 use mathlib.Core.Path.{◌≡◌, refl, sym, ◌∙◌}
-use Prim.Native.Nat.{◌+◌, ◌-◌, ◌≤◌}
 use native.Mathlib.Omega.{arith}
-use lib.ListN.{length, length-set}
+use lib.ListN.{length-set}
 use Rattle.little.proofs.Laws.{fits_true, stored_out, rest_none, rest_all, rest_next}
 use Rattle.little.proofs.store.Goals as goal
-use Rattle.little.proofs.store.Goals.{Then-fits}
-
--- where the test passes
-inside : (c : Then-fits) → let a = c.args in (a.k ≤ 4) × (a.at + a.k ≤ length a.out.now)
-inside c = fits_true _ _ _ (sym c.fits.ensures ∙ c.if-fits.true)
 
 pub loop-i-init : goal.loop-i-init
 loop-i-init c = (omega arith, refl, rest_all _ _ _ _ (sym c.fits.ensures ∙ c.if-fits.true))
 
 pub overflow_add-out : goal.overflow_add-out
-overflow_add-out c = omega (arith, inside c.before.before)
+overflow_add-out c = omega (arith, fits_true _ _ _ (sym c.fits.ensures ∙ c.if-fits.true))
 
 pub bounds-out-at : goal.bounds-out-at
-bounds-out-at c = omega (arith, inside c.before.before)
+bounds-out-at c = omega (arith, fits_true _ _ _ (sym c.fits.ensures ∙ c.if-fits.true))
 
 pub loop-i-preserved : goal.loop-i-preserved
 loop-i-preserved c = let l = c.loop-i in (omega arith, simp length-set l.invariant.1, l.invariant.2 ∙ rest_next _ _ _ _ _ c.loop-i-test.true)
-
-pub shape_of-out : goal.shape_of-out
-shape_of-out c = c.loop-i.invariant.1
 
 pub returns-after-loop-i : goal.returns-after-loop-i
 returns-after-loop-i c =

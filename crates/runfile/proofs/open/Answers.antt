@@ -8,24 +8,18 @@ returns-then-front-gt0 c = opened_faulty _ _ _ c.refused.ensures (c.front_of-fro
 
 pub returns-then-fault-gt0 : goal.returns-then-fault-gt0
 returns-then-fault-gt0 c =
-    let w = c.before.before.before.before in
-    let j = w.before.before in
-    let f = j.before.before.front_of.ensures in
-    opened_faulty _ _ _ c.refused-then-fault-gt0.ensures (open_steps _ _ _ f j.if1.false _ _ _ _ w.wide.ensures c.wide-2.ensures
+    let f = c.front_of-front.ensures in
+    opened_faulty _ _ _ c.refused-then-fault-gt0.ensures (open_steps _ _ _ f c.if-front-gt0.false _ _ _ _ c.wide.ensures c.wide-2.ensures
     c.wide16-count.ensures c.tail-part.ensures.bytes _ c.steps_fault-fault.ensures c.if-fault-gt0.true)
 
 pub returns-then-count-part : goal.returns-then-count-part
 returns-then-count-part c =
-    let w = c.before.before.before.before in
-    let j = w.before.before in
-    let f = j.before.before.front_of.ensures in
-    opened_faulty _ _ _ c.refused-then-count-part.ensures (open_over _ _ _ f j.if1.false _ _ _ _ w.wide.ensures c.wide-2.ensures
+    let f = c.front_of-front.ensures in
+    opened_faulty _ _ _ c.refused-then-count-part.ensures (open_over _ _ _ f c.if-front-gt0.false _ _ _ _ c.wide.ensures c.wide-2.ensures
     c.wide16-count.ensures c.tail-part.ensures.bytes _ c.steps_fault-fault.ensures c.if-fault-gt0.false c.if-count-part.true)
 
 pub returns : goal.returns
 returns c =
-    let w = c.before.before.before.before in
-    let j = w.before.before in
-    let f = j.before.before.front_of.ensures in
-    open_sound _ _ _ f j.if1.false _ _ _ _ w.wide.ensures c.wide-2.ensures
+    let f = c.front_of-front.ensures in
+    open_sound _ _ _ f c.if-front-gt0.false _ _ _ _ c.wide.ensures c.wide-2.ensures
     c.wide16-count.ensures c.tail-part.ensures.bytes _ c.steps_fault-fault.ensures c.if-fault-gt0.false c.if-count-part.false

@@ -1,8 +1,7 @@
 -- `runfile::step_at` meets its contract: not wholly there, or its eight bytes, of which the last four are one number.
 -- Assumes nothing.
-use mathlib.Core.Path.{sym, ap, ◌∙◌}
+use mathlib.Core.Path.{sym}
 use native.Mathlib.Omega.{arith}
-use Rattle.little.specs.Little.{result_of}
 use Rattle.runfile.proofs.Parts.{number_there, number_not, step_not, step_in_lem}
 use Rattle.runfile.proofs.step_at.Goals as goal
 
@@ -11,9 +10,9 @@ returns-then-part-i c = step_not _ _ c.if-part-i.true
 
 pub returns-in_default : goal.returns-in_default
 returns-in_default c =
-    let l = number_not _ _ 4 (omega arith) (sym c.read.ensures ∙ ap result_of c.enum_told-1.given.1) in absurd (omega arith)
+    let l = number_not _ _ 4 (omega arith) (sym c.in_default.ensures) in absurd (omega arith)
 
 pub returns : goal.returns
 returns c =
-    let e = sym c.read.ensures ∙ ap result_of c.value-1.given.1 in
+    let e = sym c.in-Is.ensures in
     step_in_lem _ _ _ (omega arith) (number_there _ _ _ _ e).0

@@ -19,5 +19,4 @@ fill-requires c =
 
 pub returns : goal.returns
 returns c =
-    let k = c.before.before in
-    write_whole _ _ _ _ k.before.fault-of.ensures k.if1.false _ (omega (arith, c.wide-2.ensures, c.wide.ensures)) c.fill.ensures
+    write_whole _ _ _ _ c.fault_of-code.ensures c.if-code-gt0.false _ (omega (arith, c.wide-2.ensures, c.wide.ensures)) c.fill.ensures

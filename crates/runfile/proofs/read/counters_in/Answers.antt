@@ -1,43 +1,22 @@
 -- `runfile::read::counters_in` meets its contract.
 -- Assumes nothing.
-use mathlib.Core.Path.{sym, ap, ◌∙◌}
-use Prim.Native.Nat.{◌-◌}
-use native.Mathlib.Omega.{arith}
+use mathlib.Core.Path.{sym}
 use Rattle.tables.specs.Table.{put}
-use Rattle.little.specs.Little.{result_of}
 use Rattle.runfile.proofs.Sections.{counters_start, counters_turn, counters_cut, counters_end}
 use Rattle.runfile.proofs.read.counters_in.Goals as goal
 
 pub loop-i-init : goal.loop-i-init
 loop-i-init c = counters_start _ _ c.requires
 
-pub overflow_mul-i : goal.overflow_mul-i
-overflow_mul-i c = omega arith
-
-pub overflow_add-i : goal.overflow_add-i
-overflow_add-i c = omega arith
-
 pub returns-in_default : goal.returns-in_default
 returns-in_default c =
-    let e = sym c.read.ensures ∙ ap result_of c.enum_told-1.given.1 in
+    let e = sym c.in_default.ensures in
     counters_cut _ _ c.requires _ _ c.loop-i.invariant c.loop-i-test.true e
-
-pub offset_bounds-counters-i : goal.offset_bounds-counters-i
-offset_bounds-counters-i c = omega arith
-
-pub bounds-counters-i : goal.bounds-counters-i
-bounds-counters-i c = omega arith
-
-pub overflow_add-i-in-loop-i : goal.overflow_add-i-in-loop-i
-overflow_add-i-in-loop-i c = omega arith
-
-pub loop-i-smaller : goal.loop-i-smaller
-loop-i-smaller c = omega arith
 
 pub loop-i-preserved : goal.loop-i-preserved
 unfolding put
 loop-i-preserved c =
-    let e = sym c.read.ensures ∙ ap result_of c.x-1.given.1 in
+    let e = sym c.in-Is.ensures in
     counters_turn _ _ c.requires _ _ c.loop-i.invariant _ c.loop-i-test.true e
 
 pub returns : goal.returns

@@ -1,10 +1,7 @@
 -- `runfile::read::steps_fault` meets its contract.
 -- Assumes nothing.
-use mathlib.Core.Path.{sym, ap, ◌∙◌}
-use Prim.Native.Nat.{◌-◌}
+use mathlib.Core.Path.{sym, ◌∙◌}
 use native.Mathlib.Omega.{arith}
-use borrow.Author.Tests.{not-true, not-false}
-use Rattle.runfile.specs.Parts.{taken_of}
 use Rattle.runfile.proofs.Sections.{steps_start_lem, steps_turn, steps_cut, steps_bad, steps_end}
 use Rattle.runfile.proofs.read.steps_fault.Goals as goal
 
@@ -13,27 +10,21 @@ loop-i-init c = (omega arith, steps_start_lem _ _)
 
 pub returns-in_default : goal.returns-in_default
 returns-in_default c =
-    let e = sym c.step_at.ensures ∙ ap taken_of c.enum_told-1.given.1 in
+    let e = sym c.in_default.ensures in
     steps_cut _ _ _ c.loop-i.invariant.1 c.loop-i-test.true e
 
 pub returns-then-not-fields_sound : goal.returns-then-not-fields_sound
 returns-then-not-fields_sound c =
-    let e = sym c.step_at.ensures ∙ ap taken_of c.x-1.given.1 in
+    let e = sym c.in-Step.ensures in
     steps_bad _ _ _ c.loop-i.invariant.1 _ c.loop-i-test.true e
-    (sym c.fields_sound.ensures ∙ not-true c.fields_sound.result c.if-not-fields_sound.true)
-
-pub overflow_add-i : goal.overflow_add-i
-overflow_add-i c = omega arith
-
-pub loop-i-smaller : goal.loop-i-smaller
-loop-i-smaller c = omega arith
+    (sym c.fields_sound.ensures ∙ c.if-not-fields_sound.true)
 
 pub loop-i-preserved : goal.loop-i-preserved
 loop-i-preserved c =
-    let e = sym c.step_at.ensures ∙ ap taken_of c.x-1.given.1 in (
+    let e = sym c.in-Step.ensures in (
       omega arith,
       steps_turn _ _ _ c.loop-i.invariant.1 _ c.loop-i-test.true e
-          (sym c.fields_sound.ensures ∙ not-false c.fields_sound.result c.if-not-fields_sound.false),
+          (sym c.fields_sound.ensures ∙ c.if-not-fields_sound.false),
     )
 
 pub returns : goal.returns

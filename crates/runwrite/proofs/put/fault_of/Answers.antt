@@ -2,42 +2,38 @@
 -- Assumes nothing.
 use mathlib.Core.Path.{sym, ◌∙◌}
 use native.Mathlib.Omega.{arith}
-use borrow.Author.Tests.{not-true, not-false}
 use Rattle.runwrite.proofs.Judging.{is_faulty, is_sound, counts_in, judged_counts, judged_masks, judged_many, judged_steps, judged_sound}
 use Rattle.runwrite.proofs.put.fault_of.Goals as goal
 
 pub returns-then-not-counts_sound : goal.returns-then-not-counts_sound
-returns-then-not-counts_sound c = is_faulty _ 33 (omega arith) (judged_counts _ _ (sym c.counts_sound.ensures ∙ not-true c.counts_sound.result c.if-not-counts_sound.true))
+returns-then-not-counts_sound c = is_faulty _ 33 (omega arith) (judged_counts _ _ (sym c.counts_sound.ensures ∙ c.if-not-counts_sound.true))
 
 pub masks_sound-requires : goal.masks_sound-requires
 masks_sound-requires c =
     let a = c.args in
-    counts_in a.head a.steps.now (sym c.counts_sound.ensures ∙ not-false c.counts_sound.result c.if-not-counts_sound.false)
+    counts_in a.head a.steps.now (sym c.counts_sound.ensures ∙ c.if-not-counts_sound.false)
 
 pub returns-then-not-masks_sound : goal.returns-then-not-masks_sound
 returns-then-not-masks_sound c =
-    let e₁ = sym c.counts_sound.ensures ∙ not-false c.counts_sound.result c.if-not-counts_sound.false in
-    is_faulty _ 34 (omega arith) (judged_masks _ _ e₁ (sym c.masks_sound.ensures ∙ not-true c.masks_sound.result c.if-not-masks_sound.true))
+    let e₁ = sym c.counts_sound.ensures ∙ c.if-not-counts_sound.false in
+    is_faulty _ 34 (omega arith) (judged_masks _ _ e₁ (sym c.masks_sound.ensures ∙ c.if-not-masks_sound.true))
 
 pub returns-then-steps-gt4096 : goal.returns-then-steps-gt4096
 returns-then-steps-gt4096 c =
-    let k = c.before.before.before.before in
-    let e₁ = sym k.before.counts-sound.ensures ∙ not-false k.before.counts-sound.result k.if1.false in
-    let e₂ = sym c.masks_sound.ensures ∙ not-false c.masks_sound.result c.if-not-masks_sound.false in
+    let e₁ = sym c.counts_sound.ensures ∙ c.if-not-counts_sound.false in
+    let e₂ = sym c.masks_sound.ensures ∙ c.if-not-masks_sound.false in
     is_faulty _ 33 (omega arith) (judged_many _ _ e₁ e₂ c.if-steps-gt4096.true)
 
 pub returns-then-not-steps_sound : goal.returns-then-not-steps_sound
 returns-then-not-steps_sound c =
-    let k = c.before.before.before.before in
-    let e₁ = sym k.before.counts-sound.ensures ∙ not-false k.before.counts-sound.result k.if1.false in
-    let e₂ = sym c.masks_sound.ensures ∙ not-false c.masks_sound.result c.if-not-masks_sound.false in
+    let e₁ = sym c.counts_sound.ensures ∙ c.if-not-counts_sound.false in
+    let e₂ = sym c.masks_sound.ensures ∙ c.if-not-masks_sound.false in
     is_faulty _ 35 (omega arith) (judged_steps _ _ e₁ e₂ c.if-steps-gt4096.false
-    (sym c.steps_sound.ensures ∙ not-true c.steps_sound.result c.if-not-steps_sound.true))
+    (sym c.steps_sound.ensures ∙ c.if-not-steps_sound.true))
 
 pub returns : goal.returns
 returns c =
-    let k = c.before.before.before.before in
-    let e₁ = sym k.before.counts-sound.ensures ∙ not-false k.before.counts-sound.result k.if1.false in
-    let e₂ = sym c.masks_sound.ensures ∙ not-false c.masks_sound.result c.if-not-masks_sound.false in
+    let e₁ = sym c.counts_sound.ensures ∙ c.if-not-counts_sound.false in
+    let e₂ = sym c.masks_sound.ensures ∙ c.if-not-masks_sound.false in
     is_sound _ (judged_sound _ _ e₁ e₂ c.if-steps-gt4096.false
-    (sym c.steps_sound.ensures ∙ not-false c.steps_sound.result c.if-not-steps_sound.false))
+    (sym c.steps_sound.ensures ∙ c.if-not-steps_sound.false))

@@ -1,37 +1,24 @@
 -- `runwrite::put::masks_sound` meets its contract.
 -- Assumes nothing.
 use mathlib.Core.Path.{sym, ◌∙◌}
-use mathlib.Core.Bool.{true}
-use Prim.Native.Nat.{◌-◌}
 use native.Mathlib.Omega.{arith}
-use borrow.Author.Tests.{not-true, not-false}
 use Rattle.tables.specs.Table.{at}
 use Rattle.tables.proofs.Loop.{every_none, every_more, every_not, every_end}
-use Rattle.runfile.specs.File.{mask_sound}
 use Rattle.runwrite.proofs.put.masks_sound.Goals as goal
 
 pub loop-i-init : goal.loop-i-init
 loop-i-init c = (omega arith, every_none _)
 
-pub bounds-masks-i : goal.bounds-masks-i
-bounds-masks-i c = omega arith
-
 pub returns-then-not-mask_sound : goal.returns-then-not-mask_sound
 unfolding at
 returns-then-not-mask_sound c =
-    let e = sym c.mask_sound.ensures ∙ not-true c.mask_sound.result c.if-not-mask_sound.true in
+    let e = sym c.mask_sound.ensures ∙ c.if-not-mask_sound.true in
     sym (every_not _ _ _ c.loop-i-test.true e)
-
-pub overflow_add-i : goal.overflow_add-i
-overflow_add-i c = omega arith
-
-pub loop-i-smaller : goal.loop-i-smaller
-loop-i-smaller c = omega arith
 
 pub loop-i-preserved : goal.loop-i-preserved
 unfolding at
 loop-i-preserved c =
-    let e = sym c.mask_sound.ensures ∙ not-false c.mask_sound.result c.if-not-mask_sound.false in
+    let e = sym c.mask_sound.ensures ∙ c.if-not-mask_sound.false in
     (omega arith, every_more _ _ c.loop-i.invariant.1 e)
 
 pub returns : goal.returns

@@ -1,7 +1,6 @@
 -- `runwrite::put::put_counters` meets its contract.
 -- Assumes nothing.
 use mathlib.Core.Path.{refl, ◌∙◌}
-use Prim.Native.Nat.{◌-◌}
 use native.Mathlib.Omega.{arith}
 use Rattle.tables.specs.Table.{at}
 use Rattle.runfile.proofs.FileItems.{counter_item}
@@ -11,32 +10,11 @@ use Rattle.runwrite.proofs.put.put_counters.Goals as goal
 pub loop-i-init : goal.loop-i-init
 loop-i-init c = (omega arith, refl, put_none counter_item _ _ _)
 
-pub overflow_mul-i : goal.overflow_mul-i
-overflow_mul-i c = omega arith
-
-pub overflow_add-i : goal.overflow_add-i
-overflow_add-i c = omega arith
-
-pub offset_bounds-counters-i : goal.offset_bounds-counters-i
-offset_bounds-counters-i c = omega arith
-
-pub bounds-counters-i : goal.bounds-counters-i
-bounds-counters-i c = omega arith
-
-pub overflow_add-i-in-loop-i : goal.overflow_add-i-in-loop-i
-overflow_add-i-in-loop-i c = omega arith
-
-pub loop-i-smaller : goal.loop-i-smaller
-loop-i-smaller c = omega arith
-
 pub loop-i-preserved : goal.loop-i-preserved
 unfolding at
 loop-i-preserved c =
     let t = put_turn counter_item _ _ _ _ _ _ c.loop-i.invariant.2 (c.store.ensures.1 ∙ counter_stored _ _ _ (omega arith)) in
     (omega arith, t.0, t.1)
-
-pub shape_of-out : goal.shape_of-out
-shape_of-out c = c.loop-i.invariant.1
 
 pub returns : goal.returns
 returns c = put_end counter_item _ _ _ _ _ _ c.loop-i.invariant.0 c.loop-i-test.false c.loop-i.invariant.2

@@ -1,7 +1,6 @@
 -- `runwrite::put::put_steps` meets its contract.
 -- Assumes nothing.
 use mathlib.Core.Path.{refl, ◌∙◌}
-use Prim.Native.Nat.{◌-◌}
 use native.Mathlib.Omega.{arith}
 use Rattle.tables.specs.Table.{at}
 use Rattle.runfile.proofs.FileItems.{step_item}
@@ -11,43 +10,12 @@ use Rattle.runwrite.proofs.put.put_steps.Goals as goal
 pub loop-i-init : goal.loop-i-init
 loop-i-init c = (omega arith, refl, put_none step_item _ _ _)
 
-pub offset_bounds-steps-i : goal.offset_bounds-steps-i
-offset_bounds-steps-i c = omega arith
-
-pub bounds-steps-i : goal.bounds-steps-i
-bounds-steps-i c = omega arith
-
-pub overflow_mul-i : goal.overflow_mul-i
-overflow_mul-i c = omega arith
-
-pub overflow_add-start : goal.overflow_add-start
-overflow_add-start c = omega arith
-
-pub overflow_mul-i-in-loop-i : goal.overflow_mul-i-in-loop-i
-overflow_mul-i-in-loop-i c = omega arith
-
-pub overflow_add-start-in-loop-i : goal.overflow_add-start-in-loop-i
-overflow_add-start-in-loop-i c = omega arith
-
-pub overflow_add-start-in-loop-i-2 : goal.overflow_add-start-in-loop-i-2
-overflow_add-start-in-loop-i-2 c = omega arith
-
-pub overflow_add-i : goal.overflow_add-i
-overflow_add-i c = omega arith
-
-pub loop-i-smaller : goal.loop-i-smaller
-loop-i-smaller c = omega arith
-
 pub loop-i-preserved : goal.loop-i-preserved
 unfolding at
 loop-i-preserved c =
-    let l = c.before.before.before.before.before in
-    let t = put_turn step_item _ _ _ _ _ _ l.loop.invariant.2 (c.store-in-loop-i.ensures.1
+    let t = put_turn step_item _ _ _ _ _ _ c.loop-i.invariant.2 (c.store-in-loop-i.ensures.1
     ∙ rw (c.store.ensures.1, c.high.ensures, c.low.ensures) (step_stored _ _ _ (omega arith))) in
     (omega arith, t.0, t.1)
-
-pub shape_of-out : goal.shape_of-out
-shape_of-out c = c.loop-i.invariant.1
 
 pub returns : goal.returns
 returns c = put_end step_item _ _ _ _ _ _ c.loop-i.invariant.0 c.loop-i-test.false c.loop-i.invariant.2

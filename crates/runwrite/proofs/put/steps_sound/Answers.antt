@@ -1,10 +1,7 @@
 -- `runwrite::put::steps_sound` meets its contract.
 -- Assumes nothing.
 use mathlib.Core.Path.{sym, ap, ◌∙◌}
-use mathlib.Core.Bool.{true}
-use Prim.Native.Nat.{◌-◌}
 use native.Mathlib.Omega.{arith}
-use borrow.Author.Tests.{not-true, not-false}
 use Rattle.tables.specs.Table.{at}
 use Rattle.tables.proofs.Loop.{every_none, every_more, every_not, every_end}
 use Rattle.runfile.specs.File.{fields_sound}
@@ -13,25 +10,16 @@ use Rattle.runwrite.proofs.put.steps_sound.Goals as goal
 pub loop-i-init : goal.loop-i-init
 loop-i-init c = (omega arith, every_none _)
 
-pub bounds-steps-i : goal.bounds-steps-i
-bounds-steps-i c = omega arith
-
 pub returns-then-not-fields_sound : goal.returns-then-not-fields_sound
 unfolding at
 returns-then-not-fields_sound c =
-    let e = sym (c.fields_sound.ensures ∙ ap fields_sound c.before.before.step_of_lem.ensures) ∙ not-true c.fields_sound.result c.if-not-fields_sound.true in
+    let e = sym (c.fields_sound.ensures ∙ ap fields_sound c.step_of.ensures) ∙ c.if-not-fields_sound.true in
     sym (every_not _ _ _ c.loop-i-test.true e)
-
-pub overflow_add-i : goal.overflow_add-i
-overflow_add-i c = omega arith
-
-pub loop-i-smaller : goal.loop-i-smaller
-loop-i-smaller c = omega arith
 
 pub loop-i-preserved : goal.loop-i-preserved
 unfolding at
 loop-i-preserved c =
-    let e = sym (c.fields_sound.ensures ∙ ap fields_sound c.before.before.step_of_lem.ensures) ∙ not-false c.fields_sound.result c.if-not-fields_sound.false in
+    let e = sym (c.fields_sound.ensures ∙ ap fields_sound c.step_of.ensures) ∙ c.if-not-fields_sound.false in
     (omega arith, every_more _ _ c.loop-i.invariant.1 e)
 
 pub returns : goal.returns
