@@ -11,7 +11,6 @@ use Rattle.group.specs.State.{holds, noted, has, opened, in_stage, at_stage}
 use Rattle.group.specs.declared.Turn.{Turn}
 use Rattle.group.specs.declared.Answer.TheVariants.{Done, Value}
 use Rattle.group.specs.Answer.{turn}
-use Rattle.group.specs.declared.Answer.TheVariants as Answer
 
 -- an own write is handed at once; else n holds the cell, and is the origin if that holds it
 unfoldable pub ask_tests : Slot → List ℕ → List ℕ → ℕ → ℕ → ℕ → List (Bool × ℕ)

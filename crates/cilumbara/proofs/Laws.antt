@@ -14,8 +14,8 @@ use Rattle.little.proofs.Laws.{Bytes}
 use Rattle.runfile.specs.declared.Opened.{Opened}
 use Rattle.runfile.specs.declared.Verdict.{Verdict}
 use Rattle.runfile.specs.declared.Verdict.TheVariants.{Sound, Faulty}
-use Rattle.runfile.specs.File.{File, Read, got, fault, joined, step_bytes, bytes_of, read_file, fault_of}
-use Rattle.runwrite.specs.Writing.{Written, written}
+use Rattle.runfile.specs.File.{File, Read, got, fault, joined, step_bytes, read_file}
+use Rattle.runwrite.specs.Writing.{written}
 use Rattle.runfile.specs.Head.{firsts, head_of, opened_of}
 use Rattle.runwrite.specs.Writing.{file_of, word_of}
 use Rattle.runfile.specs.Parts.{steps_start, step_in}

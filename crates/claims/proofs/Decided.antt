@@ -9,17 +9,13 @@ use Prim.Native.Nat.{ℕ}
 use denote.Ref.{Bor}
 use Rattle.kinds.specs.declared.Step.{Step}
 use Rattle.number.specs.declared.Proposal.{Proposal}
-use Rattle.number.specs.declared.Proposal.TheVariants as Proposal
 use Rattle.number.specs.Proposal.{result_of as proposed}
 use Rattle.chain.specs.declared.Version.{Version}
 use Rattle.chain.specs.declared.Lookup.{Lookup}
-use Rattle.chain.specs.declared.Lookup.TheVariants as Lookup
 use Rattle.chain.specs.Chain.{chains, result_of as found}
 use Rattle.little.specs.declared.Number.{Number}
-use Rattle.little.specs.declared.Number.TheVariants as Number
 use Rattle.little.specs.Little.{Tail, result_of as read}
 use Rattle.runfile.specs.declared.Taken.{Taken}
-use Rattle.runfile.specs.declared.Taken.TheVariants as Taken
 use Rattle.runfile.specs.Parts.{StepsPart, taken_of}
 
 -- ---- equations

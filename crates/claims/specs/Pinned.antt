@@ -1,9 +1,8 @@
 -- Examples that pin the definitions where a weaker one would do for the serial statement.
 -- Assumes nothing.
-use Rattle.std.specs.Prelude.{true, false, List, [], ◌∷◌, ℕ}
+use Rattle.std.specs.Prelude.{true, List, [], ◌∷◌, ℕ}
 use Rattle.tables.specs.Table.{put}
 use Rattle.kinds.specs.declared.Step.{Step}
-use Rattle.group.specs.declared.Slot.{Slot}
 use Rattle.group.specs.declared.Snapshot.TheVariants.{Fixed}
 use Rattle.group.specs.declared.Stage.TheVariants.{Served}
 use Rattle.group.specs.State.{State}

@@ -1,6 +1,6 @@
 -- The examples that the paper stars, as one list.
 -- Assumes nothing.
-use Rattle.std.specs.Prelude.{List, [], ◌∷◌, ℕ}
+use Rattle.std.specs.Prelude.{List, [], ◌∷◌}
 use Rattle.std.proofs.Math.Option.{none, some}
 use Rattle.group.specs.State.{State}
 use Rattle.group.specs.Answer.{says}

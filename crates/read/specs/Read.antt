@@ -1,6 +1,6 @@
 -- Reading: rule A, serve; rule B, return.
 -- Assumes nothing.
-use Rattle.std.specs.Prelude.{Bool, true, cond, ◌&&◌, List, [], ◌∷◌, ℕ, ◌+◌, ◌-◌, max, leb, ltb}
+use Rattle.std.specs.Prelude.{Bool, true, cond, ◌&&◌, List, [], ◌∷◌, ℕ, ◌+◌, max, leb, ltb}
 use Rattle.std.proofs.Math.Option.{Option, none, some}
 use Rattle.tables.specs.Table.{put}
 use Rattle.tables.specs.Pair.{pair}

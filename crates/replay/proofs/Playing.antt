@@ -5,7 +5,7 @@ use mathlib.Core.Path.{◌≡◌, refl, sym, ap, subst, ◌∙◌}
 use mathlib.Core.Bool.{true}
 use mathlib.Core.List.Memᴰ
 use mathlib.Core.List.{List, [], ◌∷◌, ◌++◌}
-use Prim.Native.Nat.{ℕ, zero, suc, ◌+◌, ◌*◌, ◌≤◌, ◌<◌}
+use Prim.Native.Nat.{ℕ, zero, suc, ◌*◌, ◌≤◌, ◌<◌}
 use native.Mathlib.Numerals.{add-one}
 use native.Mathlib.Omega.{arith}
 use lib.ListN.{length}
@@ -15,7 +15,6 @@ use Rattle.tables.proofs.Table.{same_table}
 use Rattle.kinds.specs.declared.Step.{Step}
 use Rattle.group.specs.State.{State}
 use Rattle.group.specs.Answer.{said}
-use Rattle.whole.specs.Whole.{whole}
 use Rattle.score.specs.Steps.{step_of}
 use Rattle.score.proofs.Codes.{code_low}
 use Rattle.text.proofs.Lines.{line_length}

@@ -9,11 +9,9 @@ use Prim.Native.Nat.{ℕ, ◌-◌, ◌≤◌, ◌<◌}
 use native.Mathlib.Omega.{arith}
 use native.Mathlib.Decide.{ℕ_discrete}
 use borrow.Author.Tests.{ltb-true, ltb-false}
-use Rattle.tables.specs.Table.{at}
 use Rattle.tables.specs.Pair.{word}
 use Rattle.tables.proofs.Choice.{by_test, not_both}
 use Rattle.tables.proofs.Table.{put_size}
-use Rattle.tables.proofs.Loop.{least}
 use Rattle.tables.proofs.Tests.{Passed}
 use Rattle.counters.specs.Counters.{committed_at}
 use Rattle.counters.specs.declared.Counters.{Counters}

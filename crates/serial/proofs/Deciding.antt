@@ -9,7 +9,6 @@ use native.Mathlib.Omega.{arith}
 use native.Mathlib.Decide.{ℕ_discrete}
 use lib.Dec.{ltb, eqb}
 use borrow.Author.Tests.{ltb-true, ltb-false, eqb-true, eqb-false, not-true}
-use Rattle.tables.specs.Table.{at}
 use Rattle.tables.proofs.Choice.{by_test}
 use Rattle.tables.proofs.Table.{put_size, put_other}
 use Rattle.tables.proofs.Loop.{any_at, largest_reached, Reached, empty, reached}

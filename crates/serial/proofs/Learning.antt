@@ -8,7 +8,6 @@ use Prim.Native.Nat.{ℕ, ◌%◌, ◌≤◌, ◌<◌}
 use native.Mathlib.Omega.{arith}
 use native.Mathlib.Decide.{ℕ_discrete}
 use borrow.Author.Tests.{leb-true, eqb-true}
-use Rattle.tables.specs.Table.{at}
 use Rattle.tables.specs.Pair.{word}
 use Rattle.tables.proofs.Choice.{by_test, and_true}
 use Rattle.tables.proofs.Tests.{Passed}
@@ -24,7 +23,7 @@ use Rattle.serial.proofs.Inv.{Ground, Nodes, Slots, Took, Transaction}
 use Rattle.serial.proofs.Joins.{Entry, JoinsAt, away, here, with_entries}
 use Rattle.serial.proofs.Views.{All, ground_of, links_of, nodes_of, same_counters, set_counters, set_tables, slots_of}
 use Rattle.serial.proofs.Change.{aborted_one}
-use Rattle.serial.proofs.Stages.{aborts, no_final}
+use Rattle.serial.proofs.Stages.{no_final}
 use Rattle.serial.proofs.Entries.{commits_stay, is_counted, looks, pends_now, slot_kept, unpends}
 
 module _ (first : ℕ → ℕ) (s : State) (H : List Handed) (a : All first s H) (x : Step) where

@@ -5,7 +5,6 @@ use mathlib.Core.Logic.{◌≢◌, inl, inr, ⊎_elim}
 use mathlib.Core.Bool.{true, false}
 use mathlib.Core.List.Memᴰ
 use mathlib.Core.List.{List, ◌∷◌}
-use mathlib.Core.Option.{none}
 use Prim.Native.Nat.{ℕ, suc, ◌+◌, ◌≤◌, ◌<◌}
 use native.Mathlib.Omega.{arith}
 use native.Mathlib.Decide.{ℕ_discrete}

@@ -13,7 +13,6 @@ use Rattle.tables.specs.Pair.{pair, word}
 use Rattle.tables.specs.Tests.{refusal}
 use Rattle.tables.proofs.Choice.{by_test, and_true}
 use Rattle.tables.proofs.Pair.{pair_low}
-use Rattle.tables.proofs.Loop.{least}
 use Rattle.tables.proofs.Tests.{Passed, passed}
 use Rattle.counters.specs.Counters.{counted_to, committed_at}
 use Rattle.counters.specs.declared.Counters.{Counters}

@@ -10,7 +10,7 @@ use native.Mathlib.Nat.{mod-lt}
 use native.Mathlib.Omega.{arith}
 use native.Mathlib.Decide.{ℕ_discrete}
 use borrow.Author.Tests.{ltb-true, eqb-true}
-use Rattle.tables.specs.Table.{at, put}
+use Rattle.tables.specs.Table.{put}
 use Rattle.tables.specs.Pair.{pair, word}
 use Rattle.tables.proofs.Choice.{by_test, and_true}
 use Rattle.tables.proofs.Table.{put_same, put_other}

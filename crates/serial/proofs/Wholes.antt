@@ -8,7 +8,6 @@ use Prim.Native.Nat.{ℕ, ◌+◌, ◌-◌, ◌/◌, ◌%◌, ◌≤◌, ◌<◌
 use native.Mathlib.Omega.{arith}
 use lib.Dec.{leb, ltb, eqb}
 use borrow.Author.Tests.{ltb-true, ltb-false, leb-true, leb-false, eqb-true, eqb-false, lt-ltb, le-leb, eq-eqb, ne_eqb}
-use Rattle.tables.specs.Table.{at}
 use Rattle.tables.specs.Pair.{word}
 use Rattle.tables.proofs.Choice.{by_test, and_true, or_true, not_both}
 use Rattle.tables.proofs.Pair.{pair_back}

@@ -10,7 +10,7 @@ use lib.ListN.{length, drop, get_or, set, length-append}
 use lib.Seq.{drop-cons, drop-length, sets}
 use borrow.Author.Tests.{lt-ltb, le-leb, lt-leb, leb-true, leb-false}
 use Rattle.tables.proofs.Choice.{by_test}
-use Rattle.text.specs.Text.{digit, decimal_in, decimal, placed, after}
+use Rattle.text.specs.Text.{digit, decimal_in, decimal, placed}
 use Rattle.text.proofs.Digits.{decimal_more, decimal_size_one, decimal_size_more, by_digits}
 use Rattle.text.proofs.Placed.{sets_append, sets_swap, placed_in}
 

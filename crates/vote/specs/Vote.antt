@@ -14,7 +14,6 @@ use Rattle.group.specs.declared.Turn.{Turn}
 use Rattle.group.specs.declared.Answer.TheVariants.{Yes, No}
 use Rattle.group.specs.Answer.{turn}
 use Rattle.vote.specs.declared.Ballot.{Ballot}
-use Rattle.vote.specs.declared.Ballot.TheVariants as Ballot
 
 -- ---- rule C, prepare: transaction t at node n, whose counters these are
 

@@ -3,7 +3,7 @@
 use native.Mathlib.Omega.{arith}
 use Rattle.tables.specs.Table.{at}
 use Rattle.little.proofs.Laws.{Bytes}
-use Rattle.replay.proofs.Opened.{Stands, opened_sound, run_plays}
+use Rattle.replay.proofs.Opened.{opened_sound, run_plays}
 use Rattle.cilumbara.proofs.Laws.{rewrite_faulty, rewrite_sound}
 use Rattle.cilumbara.proofs.cilumbara_rewrite.Goals as goal
 

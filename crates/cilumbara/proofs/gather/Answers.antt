@@ -1,7 +1,6 @@
 -- `cilumbara::gather` meets its contract.
 -- Assumes nothing.
 use mathlib.Core.Path.{sym, ap, ◌∙◌}
-use Prim.Native.Nat.{◌-◌}
 use native.Mathlib.Omega.{arith}
 use lib.ListN.{length-set}
 use Rattle.runwrite.specs.Writing.{word_of}

@@ -1,7 +1,6 @@
 -- `decide::final_number` meets its contract.
 -- Assumes nothing.
 use mathlib.Core.Path.{◌≡◌, sym, ◌∙◌}
-use Prim.Native.Nat.{◌-◌}
 use native.Mathlib.Omega.{arith}
 use Rattle.tables.proofs.Loop.{largest_none, largest_next}
 use Rattle.decide.specs.Decide.{final}

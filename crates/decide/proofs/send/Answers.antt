@@ -1,7 +1,6 @@
 -- `decide::send` meets its contract.
 -- Assumes nothing.
 use mathlib.Core.Path.{◌≡◌, sym, ◌∙◌}
-use Prim.Native.Nat.{◌-◌}
 use native.Mathlib.Omega.{arith}
 use Rattle.tables.proofs.Loop.{each_none, each_next}
 use Rattle.decide.specs.Decide.{sent_to}

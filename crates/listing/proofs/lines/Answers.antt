@@ -2,18 +2,12 @@
 -- Assumes nothing.
 use mathlib.Core.Path.{◌≡◌, refl, sym, ap, ap₂, ◌∙◌}
 use mathlib.Core.Bool.{true}
-use Prim.Native.Nat.{◌+◌, ◌*◌, ◌-◌, ◌≤◌}
 use native.Mathlib.Omega.{arith}
-use lib.ListN.{length}
-use Rattle.chain.specs.Chain.{chains}
-use Rattle.group.specs.State.{state_of}
 use Rattle.tables.specs.Table.{at, put}
-use Rattle.whole.specs.Whole.{whole}
 use Rattle.score.specs.Steps.{Stepped, step_of}
 use Rattle.runfile.specs.File.{fields_sound}
 use Rattle.runfile.specs.Parts.{taken_of, step_in}
-use Rattle.listing.specs.Going.{state_after, steps_to}
-use Rattle.listing.proofs.Going.{state_in, gone_none, gone_size, taken_is, taken_never, is_there, still_whole, place_low, all_shown, line_fits, gone_next, ready, stepped}
+use Rattle.listing.proofs.Going.{gone_none, gone_size, taken_is, taken_never, is_there, still_whole, place_low, all_shown, line_fits, gone_next, ready, stepped}
 use Rattle.listing.proofs.lines.Goals as goal
 
 pub loop-i-init : goal.loop-i-init
@@ -41,8 +35,8 @@ put_line-at-requires c =
     let f : fields_sound c.in-Step.x ≡ true = rw x (c.requires.0.fields _ c.loop-i-test.true) in
     let w = still_whole _ _ _ _ _ _ c.requires.0 c.requires.1 c.requires.2 _ _ _ _ c.loop-i.invariant c.loop-i-test.true in
     let e = stepped c.args.g _ _ _ _ _ _ _ w _ _ refl _ f c.place_of-t.ensures.0 _ c.place-n.ensures _ c.counters_at-c.ensures _ _ _ _ _ _
-        c.act-turn.ensures _ refl _ refl
-        ∙ ap₂ step_of c.loop-i.invariant.state x in (
+    c.act-turn.ensures _ refl _ refl
+    ∙ ap₂ step_of c.loop-i.invariant.state x in (
       place_low _ _ _ _ _ _ c.requires.0 c.requires.1 c.requires.2 _ _ _ _ c.loop-i.invariant,
       rw n (line_fits _ _ _ _ _ _ c.requires.0 c.requires.1 c.requires.2 _ _ _ _ c.loop-i.invariant c.loop-i-test.true _ (ap (λ (o : Stepped). o.answer) e)),
     )
@@ -61,8 +55,8 @@ loop-i-preserved c =
     let f : fields_sound c.in-Step.x ≡ true = rw x (c.requires.0.fields _ c.loop-i-test.true) in
     let w = still_whole _ _ _ _ _ _ c.requires.0 c.requires.1 c.requires.2 _ _ _ _ c.loop-i.invariant c.loop-i-test.true in
     let e = stepped c.args.g _ _ _ _ _ _ _ w _ _ refl _ f c.place_of-t.ensures.0 _ c.place-n.ensures _ c.counters_at-c.ensures _ _ _ _ _ _
-        c.act-turn.ensures _ refl _ c.put_counters-changed.ensures
-        ∙ ap₂ step_of c.loop-i.invariant.state x in
+    c.act-turn.ensures _ refl _ c.put_counters-changed.ensures
+    ∙ ap₂ step_of c.loop-i.invariant.state x in
     gone_next _ _ _ _ _ _ c.requires.0 c.requires.1 c.requires.2 _ _ _ _ c.loop-i.invariant c.loop-i-test.true _ e _ _ (rw n at c.put_line-at.ensures)
 
 pub shape_of-out : goal.shape_of-out

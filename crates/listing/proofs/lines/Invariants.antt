@@ -3,7 +3,6 @@
 use Prim.Native.Nat.{◌-◌}
 use Rattle.chain.specs.Chain.{chains}
 use Rattle.group.specs.State.{state_of}
-use Rattle.tables.specs.Table.{at}
 use Rattle.listing.proofs.Going.{state_in, Gone}
 use Rattle.listing.proofs.lines.Given as goal
 

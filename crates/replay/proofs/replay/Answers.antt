@@ -3,7 +3,7 @@
 use native.Mathlib.Omega.{arith}
 use Rattle.tables.specs.Table.{at}
 use Rattle.little.proofs.Laws.{Bytes}
-use Rattle.replay.proofs.Opened.{text_faulty, Stands, opened_sound, run_plays, text_sound}
+use Rattle.replay.proofs.Opened.{text_faulty, opened_sound, run_plays, text_sound}
 use Rattle.replay.proofs.replay.Goals as goal
 
 pub returns-in-Faulty : goal.returns-in-Faulty

@@ -1,6 +1,5 @@
 -- `text::line` meets its contract: the four numbers one after the other, or none.
 -- Assumes nothing.
-use mathlib.Core.Path.{sym, ◌∙◌}
 use mathlib.Core.List.{[], ◌∷◌}
 use Prim.Native.Nat.{◌+◌, ◌≤◌}
 use native.Mathlib.Omega.{arith}

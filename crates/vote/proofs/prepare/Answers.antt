@@ -1,6 +1,6 @@
 -- `vote::prepare` meets its contract: each way out is a law of what the step comes to.
 -- Assumes nothing.
-use mathlib.Core.Path.{◌≡◌, refl, sym, ◌∙◌}
+use mathlib.Core.Path.{refl, sym, ◌∙◌}
 use borrow.Author.Tests.{eq-eqb, ne_eqb}
 use Rattle.tables.proofs.Tests.{Passed, Fails, here, later, accepted, refused}
 use Rattle.vote.specs.Vote.{prepare_tests}

@@ -1,6 +1,5 @@
 -- `whole::transactions_sound` meets its contract: the transactions passed are tried.
 -- Assumes nothing.
-use Prim.Native.Nat.{◌-◌}
 use Rattle.tables.specs.Table.{at}
 use Rattle.whole.proofs.Laws.{begun, turned, ended}
 use Rattle.whole.proofs.transactions_sound.Goals as goal

@@ -1,7 +1,6 @@
 -- `fresh::fill::counters` meets its contract.
 -- Assumes nothing.
 use mathlib.Core.Path.{◌≡◌, refl, sym, ap, ◌∙◌}
-use Prim.Native.Nat.{◌-◌}
 use native.Mathlib.Omega.{arith}
 use Rattle.tables.specs.Table.{at, put}
 use Rattle.tables.proofs.Loop.{each_none, each_next}

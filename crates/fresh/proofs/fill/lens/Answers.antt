@@ -1,7 +1,6 @@
 -- `fresh::fill::lens` meets its contract.
 -- Assumes nothing.
 use mathlib.Core.Path.{◌≡◌, sym, ap, ◌∙◌}
-use Prim.Native.Nat.{◌-◌}
 use native.Mathlib.Omega.{arith}
 use Rattle.tables.specs.Table.{put}
 use Rattle.tables.proofs.Loop.{each_none, each_next}

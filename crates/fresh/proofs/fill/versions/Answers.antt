@@ -1,7 +1,7 @@
 -- `fresh::fill::versions` meets its contract.
 -- Assumes nothing.
 use mathlib.Core.Path.{◌≡◌, sym, ap₂, ◌∙◌}
-use Prim.Native.Nat.{◌*◌, ◌-◌, ◌/◌}
+use Prim.Native.Nat.{◌*◌, ◌/◌}
 use native.Mathlib.Omega.{arith}
 use Rattle.tables.specs.Table.{at, put}
 use Rattle.tables.specs.Pair.{pair}

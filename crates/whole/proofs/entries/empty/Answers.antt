@@ -1,6 +1,5 @@
 -- `whole::entries::empty` meets its contract: the entries of the nodes passed are tried.
 -- Assumes nothing.
-use Prim.Native.Nat.{◌-◌}
 use Rattle.whole.specs.Whole.{empty}
 use Rattle.whole.proofs.Laws.{begun, turned, ended}
 use Rattle.whole.proofs.entries.empty.Goals as goal

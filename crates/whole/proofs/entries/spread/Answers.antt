@@ -1,6 +1,5 @@
 -- `whole::entries::spread` meets its contract: the nodes passed are tried.
 -- Assumes nothing.
-use Prim.Native.Nat.{◌-◌}
 use Rattle.whole.specs.Whole.{spread}
 use Rattle.whole.proofs.Laws.{beq_same, begun, turned, ended}
 use Rattle.whole.proofs.entries.spread.Goals as goal

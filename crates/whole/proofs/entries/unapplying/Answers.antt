@@ -1,6 +1,5 @@
 -- `whole::entries::unapplying` meets its contract: the entries of the nodes passed are tried.
 -- Assumes nothing.
-use Prim.Native.Nat.{◌-◌}
 use Rattle.whole.proofs.Laws.{begun, turned, ended}
 use Rattle.whole.proofs.entries.unapplying.Goals as goal
 

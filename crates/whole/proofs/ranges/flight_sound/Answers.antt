@@ -1,6 +1,5 @@
 -- `whole::ranges::flight_sound` meets its contract: the rows passed are tried.
 -- Assumes nothing.
-use Prim.Native.Nat.{◌-◌}
 use Rattle.whole.specs.Whole.{flight_sound}
 use Rattle.whole.proofs.Laws.{begun, turned, ended}
 use Rattle.whole.proofs.ranges.flight_sound.Goals as goal

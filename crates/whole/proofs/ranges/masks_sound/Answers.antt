@@ -1,6 +1,5 @@
 -- `whole::ranges::masks_sound` meets its contract: the masks of the cells passed are tried.
 -- Assumes nothing.
-use Prim.Native.Nat.{◌-◌}
 use Rattle.whole.specs.Whole.{masks_sound}
 use Rattle.whole.proofs.Laws.{begun, turned, ended}
 use Rattle.whole.proofs.ranges.masks_sound.Goals as goal

@@ -1,6 +1,5 @@
 -- `whole::ranges::notes_sound` meets its contract: the notes passed are tried.
 -- Assumes nothing.
-use Prim.Native.Nat.{◌-◌}
 use mathlib.Core.Path.{refl}
 use Rattle.tables.specs.Table.{at}
 use Rattle.whole.specs.Whole.{notes_sound}

@@ -1,6 +1,5 @@
 -- `whole::slots::sets_sound` meets its contract: the cells passed are tried.
 -- Assumes nothing.
-use Prim.Native.Nat.{◌-◌}
 use Rattle.whole.specs.Whole.{sets_sound}
 use Rattle.whole.proofs.Laws.{begun, turned, ended}
 use Rattle.whole.proofs.slots.sets_sound.Goals as goal
