@@ -1,11 +1,12 @@
 /*
  * The exchange logic as a library for firmware: run files checked, replayed
- * and written anew. Link target/staticlib/libcilumbara.a (`rt staticlib
- * cilumbara` makes it; it is for x86-64, and calls memcpy and memset alone).
+ * and written anew. Link target/staticlib/libcilumbara.a (`tools/library`
+ * makes it, by `rt lib` in crates/cilumbara_c; it is for x86-64, and calls
+ * memcpy and memset alone).
  *
  * Every function takes any bytes of any length, always returns, allocates
  * nothing and keeps nothing between calls: what each of them answers and
- * writes is proved, for all inputs (crates/cilumbara/src/lib.rt has the
+ * writes is proved, for all inputs (crates/cilumbara_c/src/lib.rt has the
  * contracts). What the proof takes for granted, and C can't check, is that
  * each pointer is not null, even where the length is 0, that so many bytes
  * stand there, and that nobody else touches them during the call. `out` may

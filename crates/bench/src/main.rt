@@ -3,6 +3,8 @@
 
 ghost use Rattle.std.specs.Prelude.{◌≡◌, length};
 
+use std::io::{self, Read, Write};
+
 // Longer than the longest file, for inputs that are too long.
 fn file_space() -> [u8; 65536]
     ensures { 65536 ≡ length result }
@@ -23,49 +25,61 @@ fn size_space() -> [u8; 4]
     [0; 4]
 }
 
-// The length that stands before the next file; longer than the space for it where there is none.
-fn next_size() -> usize {
+// The length that stands before the next file, if there is one.
+fn next_size<R: Read>(input: &mut R) -> io::Result<Option<usize>> {
     let mut bytes = size_space();
-    let n = io::read_full(0, &mut bytes);
-    let little::Number::Is(size) = little::read(&bytes[..n], 0, 4) else {
-        return 4294967296;
-    };
-    size as usize
+    let n = show::read_full(input, &mut bytes)?;
+    match little::read(&bytes[..n], 0, 4) {
+        little::Number::Is(size) => Ok(Some(size as usize)),
+        little::Number::Missing => Ok(None),
+    }
 }
 
 // A file that fills the part, if the input has so many bytes more.
-fn read_and_show(part: &mut [u8], out: &mut [u8]) -> bool {
-    let n = io::read_full(0, part);
+fn read_and_show<R: Read, W: Write>(
+    input: &mut R,
+    part: &mut [u8],
+    text: &mut [u8],
+    out: &mut W,
+) -> io::Result<bool> {
+    let n = show::read_full(input, part)?;
     if n < part.len() {
-        return false;
+        return Ok(false);
     }
-    show::show(part, out);
-    true
+    show::show(part, text, out)?;
+    Ok(true)
 }
 
 // One file more, or none.
-fn one(file: &mut [u8], out: &mut [u8]) -> bool {
-    let size = next_size();
-    if size <= file.len() {
-        read_and_show(&mut file[..size], out)
-    } else {
-        false
+fn one<R: Read, W: Write>(
+    input: &mut R,
+    file: &mut [u8],
+    text: &mut [u8],
+    out: &mut W,
+) -> io::Result<bool> {
+    match next_size(input)? {
+        Some(size) if size <= file.len() => read_and_show(input, &mut file[..size], text, out),
+        _ => Ok(false),
     }
 }
 
 // All of them: a million at most, so that it ends whatever the input is.
-fn all(file: &mut [u8], out: &mut [u8]) {
-    let mut left: u32 = 1000000;
-    while 0 < left {
-        if !one(file, out) {
-            return;
+fn all<R: Read, W: Write>(
+    input: &mut R,
+    file: &mut [u8],
+    text: &mut [u8],
+    out: &mut W,
+) -> io::Result<()> {
+    for _ in 0..1000000 {
+        if !one(input, file, text, out)? {
+            break;
         }
-        left = left - 1;
     }
+    Ok(())
 }
 
-fn main() {
+fn main(rt: HostRuntime) -> io::Result<()> {
     let mut file = file_space();
-    let mut out = text_space();
-    all(&mut file, &mut out);
+    let mut text = text_space();
+    all(&mut rt.stdin(), &mut file, &mut text, &mut rt.stdout())
 }

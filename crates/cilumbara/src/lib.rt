@@ -1,5 +1,5 @@
-// The library for firmware: functions for C, over numbers and over bytes that the caller lends. Each takes any bytes and refuses what it
-// must. The header is include/cilumbara.h.
+// The library for firmware: functions over numbers and over bytes that the caller lends. Each takes any bytes and refuses what it must. C
+// calls them by the same names, from the crate cilumbara_c.
 #![tactic(auto)]
 
 ghost use Rattle.std.specs.Prelude.{◌≡◌, ◌*◌, ◌≤◌, length, take};
@@ -13,8 +13,7 @@ ghost use Rattle.cilumbara.specs.Library.{check_of, rewrite_of, words_to};
 use runfile::{Head, Taken, Verdict};
 
 // The text that the run program prints for a file, at the front of the output, or nothing where it doesn't fit. Returns the text's length.
-#[unsafe(no_mangle)]
-pub extern "C" fn cilumbara_replay(file: &[u8], out: &mut [u8]) -> usize
+pub fn cilumbara_replay(file: &[u8], out: &mut [u8]) -> usize
     ensures { (result ≡ length (text_of (read_file file.now)))
         × (out.new ≡ placed out.old 0 (text_of (read_file file.now))) }
 {
@@ -22,8 +21,7 @@ pub extern "C" fn cilumbara_replay(file: &[u8], out: &mut [u8]) -> usize
 }
 
 // The code of a file's first fault by place; 0 for a sound file.
-#[unsafe(no_mangle)]
-pub extern "C" fn cilumbara_check(file: &[u8]) -> u8
+pub fn cilumbara_check(file: &[u8]) -> u8
     ensures { result ≡ check_of (read_file file.now) }
 {
     let opened = runfile::open(file);
@@ -63,8 +61,7 @@ fn anew(h: Head, part: &[u8], out: &mut [u8]) -> u8
 
 // Reads a file and writes its run anew: 0 and the same bytes at the front of the output. A fault's code, or 37 where the output is too
 // short, writes nothing.
-#[unsafe(no_mangle)]
-pub extern "C" fn cilumbara_rewrite(file: &[u8], out: &mut [u8]) -> u8
+pub fn cilumbara_rewrite(file: &[u8], out: &mut [u8]) -> u8
     ensures { (result ≡ (rewrite_of (read_file file.now) out.old).code)
         × (out.new ≡ (rewrite_of (read_file file.now) out.old).out) }
 {

@@ -66,6 +66,7 @@ state_run r (x ∷ xs) = state_run (next r x) xs
 
 steps32_last : (xs : List Step) (x : Step) → Steps32 xs → x.value < word → Steps32 (xs ++ (x ∷ []))
 steps32_last [] x p h y (Memᴰ.head e) = subst (λ (z : Step). z.value < word) (sym e) h
+steps32_last [] x p h y (Memᴰ.tail m) = elim m [ ]
 steps32_last (z ∷ zs) x p h y (Memᴰ.head e) = p y (Memᴰ.head e)
 steps32_last (z ∷ zs) x p h y (Memᴰ.tail m) = steps32_last zs x (λ w n. p w (Memᴰ.tail n)) h y m
 

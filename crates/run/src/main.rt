@@ -1,7 +1,12 @@
 // Reads a run file on standard input and prints its run, or the code of its fault.
 #![tactic(auto)]
 
-ghost use Rattle.std.specs.Prelude.{◌≡◌, length};
+ghost use Rattle.std.specs.Prelude.{◌≡◌, length, OnOk, IfSome};
+ghost use Rattle.std.specs.Io.KnownBytes.{Appends};
+ghost use Rattle.runfile.specs.File.{read_file};
+ghost use Rattle.replay.specs.Replay.{text_of};
+
+use std::io::{self, Read, Write};
 
 // One byte more than the longest file has, so that a longer input is refused for its bytes left over and not cut.
 fn file_space() -> [u8; 32965]
@@ -17,9 +22,18 @@ fn text_space() -> [u8; 122894]
     [0; 122894]
 }
 
-fn main() {
+// What is printed is the text of all that the input holds, where that is known.
+fn run<R: Read, W: Write>(input: &mut R, out: &mut W) -> io::Result<()>
+    ensures { OnOk result (IfSome (R.remaining input.old)
+        (λ xs. Appends (W.contents out.old) (W.contents out.new) (text_of (read_file xs)))) }
+{
     let mut file = file_space();
-    let mut out = text_space();
-    let n = io::read_full(0, &mut file);
-    show::show(&file[..n], &mut out);
+    let mut text = text_space();
+    let n = show::read_full(input, &mut file)?;
+    show::show(&file[..n], &mut text, out)?;
+    Ok(())
+}
+
+fn main(rt: HostRuntime) -> io::Result<()> {
+    run(&mut rt.stdin(), &mut rt.stdout())
 }

@@ -4,7 +4,7 @@ use Rattle.cilumbara.proofs.Laws.{check_faulty, check_sound}
 use Rattle.cilumbara.proofs.cilumbara_check.Goals as goal
 
 pub returns-in-Faulty : goal.returns-in-Faulty
-returns-in-Faulty c = check_faulty _ _ c.before.before.before.«open».ensures _ c.verdict-1.given.1
+returns-in-Faulty c = check_faulty _ _ c.open-opened.ensures _ c.in-Faulty.is
 
 pub returns : goal.returns
-returns c = check_sound _ _ c.before.before.«open».ensures c.enum_told-1.given.1
+returns c = check_sound _ _ c.open-opened.ensures c.in_default.is

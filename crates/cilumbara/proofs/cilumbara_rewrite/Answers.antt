@@ -6,24 +6,21 @@ use Rattle.little.proofs.Laws.{Bytes}
 use Rattle.replay.proofs.Opened.{Stands, opened_sound, run_plays}
 use Rattle.cilumbara.proofs.Laws.{rewrite_faulty, rewrite_sound}
 use Rattle.cilumbara.proofs.cilumbara_rewrite.Goals as goal
-use Rattle.cilumbara.proofs.cilumbara_rewrite.Goals.{In_default}
 
 pub returns-in-Faulty : goal.returns-in-Faulty
-returns-in-Faulty c = rewrite_faulty _ _ c.before.before.before.before.«open».ensures _ c.verdict-1.given.1 _
-
--- what lies in memory is bytes
-bytes : (c : In_default) → Bytes c.args.file.now
-unfolding at
-bytes c i l = omega (arith, c.shared_slice_known-1.given i)
-
-sound : (c : In_default) → Stands c.args.file.now c.before.before.before.«open».result c.before.before.before.«open».ensures
-sound c = opened_sound _ _ _ (bytes c) c.enum_told-1.given.1
+returns-in-Faulty c = rewrite_faulty _ _ c.open-opened.ensures _ c.in-Faulty.is _
 
 pub anew-requires : goal.anew-requires
+unfolding at
 anew-requires c =
-    let p = run_plays _ _ _ (bytes c) _ c.steps-part.ensures.bytes (sound c) in
+    let b : Bytes c.args.file.now = λ i l. omega (arith, c.type_inv.file i) in
+    let e = c.open-opened.ensures in
+    let p = run_plays _ _ e b _ c.steps-part.ensures.bytes (opened_sound _ _ e b c.in_default.is) in
     (p.goes.few, p.goes.there)
 
 pub returns : goal.returns
+unfolding at
 returns c =
-    rewrite_sound _ _ _ (bytes c) _ c.steps-part.ensures.bytes (sound c) _ _ _ c.anew.ensures
+    let b : Bytes c.args.file.now = λ i l. omega (arith, c.type_inv.file i) in
+    let e = c.open-opened.ensures in
+    rewrite_sound _ _ e b _ c.steps-part.ensures.bytes (opened_sound _ _ e b c.in_default.is) _ _ _ c.anew.ensures

@@ -14,7 +14,7 @@ pub loop-i-init : goal.loop-i-init
 loop-i-init c = (omega arith, c.requires.2, words_none c.args.part.now c.args.words.now)
 
 pub returns-in_default : goal.returns-in_default
-returns-in_default c = taken_never _ _ (omega arith) (sym (ap taken_of c.enum_told-1.given.1) ∙ c.step_at.ensures)
+returns-in_default c = taken_never _ _ (omega arith) (sym (ap taken_of c.in_default.is) ∙ c.step_at.ensures)
 
 pub offset_bounds-words-i : goal.offset_bounds-words-i
 offset_bounds-words-i c = omega arith
@@ -29,13 +29,12 @@ pub loop-i-smaller : goal.loop-i-smaller
 loop-i-smaller c = omega arith
 
 pub loop-i-preserved : goal.loop-i-preserved
-loop-i-preserved c =
-    (
-      omega arith,
-      length-set c.loop-i.words c.loop-i.i c.pack.result ∙ c.loop-i.invariant.1,
-      words_next _ _ _ _ (omega arith) c.loop-i.invariant.2
-          (c.pack.ensures ∙ ap word_of (taken_is _ _ (omega arith) _ (sym (ap taken_of c.x-1.given.1) ∙ c.step_at.ensures))),
-    )
+loop-i-preserved c = (
+  omega arith,
+  length-set c.loop-i.words c.loop-i.i c.pack.result ∙ c.loop-i.invariant.1,
+  words_next _ _ _ _ (omega arith) c.loop-i.invariant.2
+      (c.pack.ensures ∙ ap word_of (taken_is _ _ (omega arith) _ (sym (ap taken_of c.in-Step.is) ∙ c.step_at.ensures))),
+)
 
 pub returns : goal.returns
 returns c = (words_end _ _ _ _ c.loop-i.invariant.0 c.loop-i-test.false c.loop-i.invariant.2, c.loop-i.invariant.1)

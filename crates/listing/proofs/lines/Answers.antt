@@ -15,28 +15,6 @@ use Rattle.runfile.specs.Parts.{taken_of, step_in}
 use Rattle.listing.specs.Going.{state_after, steps_to}
 use Rattle.listing.proofs.Going.{state_in, gone_none, gone_size, taken_is, taken_never, is_there, still_whole, place_low, all_shown, line_fits, gone_next, ready, stepped}
 use Rattle.listing.proofs.lines.Goals as goal
-use Rattle.listing.proofs.lines.Goals.{After-act-turn, In-Step, In-loop-i}
-
--- ---- what is known in a turn: that its step is there, which one it is, and that the state is whole
-
-there :
-    (c : In-loop-i) → 8 * c.loop-i.i + 8 ≤ length c.args.part.now
-there c =
-    is_there _ _ _ _ _ _ c.requires.0 c.requires.1 c.requires.2 _ _ _ _ c.loop-i.invariant c.loop-i-test.true
-
-taken : (c : In-Step) → c.x-1.given.0.0 ≡ step_in c.args.part.now c.loop-i.i
-taken c = taken_is _ _ (there c.before.before.before.before) _ (sym (ap taken_of c.x-1.given.1) ∙ c.step_at.ensures)
-
-judged : (c : In-Step) → fields_sound c.x-1.given.0.0 ≡ true
-judged c =
-    rw (taken c) (c.requires.0.fields _ c.loop-i-test.true)
-
-wholly :
-    (c : In-loop-i)
-    → let l = c.loop-i in
-    whole (state_in c.args.g l.counters l.slots l.flight l.lens l.versions l.writes l.reads) ≡ true
-wholly c =
-    still_whole _ _ _ _ _ _ c.requires.0 c.requires.1 c.requires.2 _ _ _ _ c.loop-i.invariant c.loop-i-test.true
 
 pub loop-i-init : goal.loop-i-init
 loop-i-init c = gone_none _ _ _ _ _ _
@@ -46,35 +24,27 @@ shape_of-out-in_default c = gone_size _ _ _ _ _ _ _ _ _ _ c.loop-i.invariant
 
 pub returns-in_default : goal.returns-in_default
 returns-in_default c =
-    taken_never _ _ (there c) (sym (ap taken_of c.enum_told-1.given.1) ∙ c.step_at.ensures)
+    taken_never _ _ (is_there _ _ _ _ _ _ c.requires.0 c.requires.1 c.requires.2 _ _ _ _ c.loop-i.invariant c.loop-i-test.true) (sym (ap taken_of c.in_default.is) ∙ c.step_at.ensures)
 
 pub act-turn-requires : goal.act-turn-requires
 unfolding at
-act-turn-requires c = ready c.args.g _ _ _ _ _ _ _ (wholly c.before.before.before.before.before.before.before.before.before.before.before.before.before.before) _ _ refl c.place_of-t.ensures.1
-
--- what the step comes to, with the slot and the counters put back
-answered :
-    (c : After-act-turn)
-    → let a = c.args in
-    let l = c.loop-i in
-    c.act-turn.result.answer
-    ≡ (step_of (state_after (state_of a.g a.flight.now (chains a.lens.now a.versions.now) a.writes.now a.reads.now) (steps_to a.part.now c.i))
-    (step_in a.part.now c.i)).answer
-unfolding at
-answered c =
-    ap (λ (o : Stepped). o.answer)
-    (stepped c.args.g _ _ _ _ _ _ _ (wholly c) _ _ refl _ (judged c.before.before.before.before.before.before.before.before.before.before.before) c.place_of-t.ensures.0 _ c.place-n.ensures _
-    c.counters_at-c.ensures _ _ _ _ _ _ c.act-turn.ensures _ refl _ refl
-    ∙ ap₂ step_of c.loop-i.invariant.state (taken c.before.before.before.before.before.before.before.before.before.before.before))
+act-turn-requires c = ready c.args.g _ _ _ _ _ _ _ (still_whole _ _ _ _ _ _ c.requires.0 c.requires.1 c.requires.2 _ _ _ _ c.loop-i.invariant c.loop-i-test.true) _ _ refl c.place_of-t.ensures.1
 
 pub narrow-requires : goal.narrow-requires
 narrow-requires c = omega (arith, c.loop-i-test.true, c.requires.0.few)
 
 pub put_line-at-requires : goal.put_line-at-requires
+unfolding at
 put_line-at-requires c =
-    let n : c.narrow.result ≡ c.loop-i.i = c.narrow.ensures in (
+    let n : c.narrow.result ≡ c.loop-i.i = c.narrow.ensures in
+    let x : c.in-Step.x ≡ step_in c.args.part.now c.loop-i.i = taken_is _ _ (is_there _ _ _ _ _ _ c.requires.0 c.requires.1 c.requires.2 _ _ _ _ c.loop-i.invariant c.loop-i-test.true) _ (sym (ap taken_of c.in-Step.is) ∙ c.step_at.ensures) in
+    let f : fields_sound c.in-Step.x ≡ true = rw x (c.requires.0.fields _ c.loop-i-test.true) in
+    let w = still_whole _ _ _ _ _ _ c.requires.0 c.requires.1 c.requires.2 _ _ _ _ c.loop-i.invariant c.loop-i-test.true in
+    let e = stepped c.args.g _ _ _ _ _ _ _ w _ _ refl _ f c.place_of-t.ensures.0 _ c.place-n.ensures _ c.counters_at-c.ensures _ _ _ _ _ _
+        c.act-turn.ensures _ refl _ refl
+        ∙ ap₂ step_of c.loop-i.invariant.state x in (
       place_low _ _ _ _ _ _ c.requires.0 c.requires.1 c.requires.2 _ _ _ _ c.loop-i.invariant,
-      rw n (line_fits _ _ _ _ _ _ c.requires.0 c.requires.1 c.requires.2 _ _ _ _ c.loop-i.invariant c.loop-i-test.true _ (answered c)),
+      rw n (line_fits _ _ _ _ _ _ c.requires.0 c.requires.1 c.requires.2 _ _ _ _ c.loop-i.invariant c.loop-i-test.true _ (ap (λ (o : Stepped). o.answer) e)),
     )
 
 pub overflow_add-i : goal.overflow_add-i
@@ -87,10 +57,13 @@ pub loop-i-preserved : goal.loop-i-preserved
 unfolding at put
 loop-i-preserved c =
     let n : c.narrow.result ≡ c.loop-i.i = c.narrow.ensures in
-    gone_next _ _ _ _ _ _ c.requires.0 c.requires.1 c.requires.2 _ _ _ _ c.loop-i.invariant c.loop-i-test.true _
-    (stepped c.args.g _ _ _ _ _ _ _ (wholly c) _ _ refl _ (judged c.before.before.before.before.before.before.before.before.before.before.before) c.place_of-t.ensures.0 _ c.place-n.ensures _
-    c.counters_at-c.ensures _ _ _ _ _ _ c.act-turn.ensures _ refl _ c.put_counters-changed.ensures
-    ∙ ap₂ step_of c.loop-i.invariant.state (taken c.before.before.before.before.before.before.before.before.before.before.before)) _ _ (rw n at c.put_line-at.ensures)
+    let x : c.in-Step.x ≡ step_in c.args.part.now c.loop-i.i = taken_is _ _ (is_there _ _ _ _ _ _ c.requires.0 c.requires.1 c.requires.2 _ _ _ _ c.loop-i.invariant c.loop-i-test.true) _ (sym (ap taken_of c.in-Step.is) ∙ c.step_at.ensures) in
+    let f : fields_sound c.in-Step.x ≡ true = rw x (c.requires.0.fields _ c.loop-i-test.true) in
+    let w = still_whole _ _ _ _ _ _ c.requires.0 c.requires.1 c.requires.2 _ _ _ _ c.loop-i.invariant c.loop-i-test.true in
+    let e = stepped c.args.g _ _ _ _ _ _ _ w _ _ refl _ f c.place_of-t.ensures.0 _ c.place-n.ensures _ c.counters_at-c.ensures _ _ _ _ _ _
+        c.act-turn.ensures _ refl _ c.put_counters-changed.ensures
+        ∙ ap₂ step_of c.loop-i.invariant.state x in
+    gone_next _ _ _ _ _ _ c.requires.0 c.requires.1 c.requires.2 _ _ _ _ c.loop-i.invariant c.loop-i-test.true _ e _ _ (rw n at c.put_line-at.ensures)
 
 pub shape_of-out : goal.shape_of-out
 shape_of-out c = gone_size _ _ _ _ _ _ _ _ _ _ c.loop-i.invariant

@@ -1,0 +1,12 @@
+-- `show::read_full`: the bytes read so far stand at the front of the space, and are what the input lost.
+-- Assumes nothing.
+use Rattle.std.proofs.Common.{length, ◌-◌, take, ◌≤◌}
+use Rattle.std.specs.Io.KnownBytes.{Consumes}
+use Rattle.show.proofs.read_full.Given as goal
+
+abbrev pub invariant-loop-done : goal.invariant-loop-done
+invariant-loop-done g l =
+    (l.done ≤ length l.space) × Consumes (g.R.Read.remaining l.initial.input) (g.R.Read.remaining l.input) (take l.done l.space)
+
+abbrev pub decreases-loop-done : goal.decreases-loop-done
+decreases-loop-done g l = length l.initial.space - l.done
