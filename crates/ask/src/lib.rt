@@ -43,6 +43,7 @@ fn ask_for(x: Snapshot, commit: u32, node: u8, cell: u8) -> group::Ask
 }
 
 // The whole step: an own write is handed at once, fixes no snapshot and joins nothing; else the read is asked.
+#[tactic(auto, unfolding(crate::specs::Ask::ask_turn))]
 fn asked(slot: Slot, origin: Counters, writes: &[u64; 1024], t: u8, node: u8, cell: u8) -> Turn
     requires { (t < 32) × (cell < 32) × (noted writes.now t cell ≤ 4294967296) }
     ensures { result ≡ ask_turn slot origin writes.now t node cell }

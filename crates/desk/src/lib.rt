@@ -30,6 +30,7 @@ fn inside(used: bool, i: u8, count: u8) -> bool
 }
 
 // Refusals 16 to 18, by the table of kinds.
+#[tactic(auto, unfolding(crate::specs::Parts::field_refusal, tables::specs::Tests::refusal))]
 fn field_fault(nodes: u8, cells: u8, x: Step) -> Fault
     ensures { code_of result ≡ field_refusal nodes cells x }
 {

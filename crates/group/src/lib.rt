@@ -316,6 +316,7 @@ pub fn enter(flight: &mut [u64; 256], slot: u8, node: u8, tag: u32, number: u32)
     flight[(slot as usize) * 8 + (node as usize)] = (tag as u64) * 4294967296 + (number as u64);
 }
 
+#[tactic(auto, unfolding(crate::specs::State::unfinished))]
 pub fn unfinished(flight: &[u64; 256], slot: u8, node: u8) -> bool
     requires { (slot < 32) × (node < 8) }
     ensures { result ≡ is_unfinished flight.now slot node }

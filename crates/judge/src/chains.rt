@@ -42,6 +42,7 @@ fn ascends(versions: &[u64; 2048], c: u8, n: u8, last: u8) -> bool
 }
 
 // The length is tested before a version is read.
+#[tactic(auto, unfolding(whole::specs::Whole::chain_sound))]
 fn chain_sound(lens: &[u8; 256], versions: &[u64; 2048], c: u8, n: u8) -> bool
     requires { (c < 32) × (n < 8) }
     ensures { result ≡ chain_sound (chains lens.now versions.now) c n }

@@ -50,6 +50,7 @@ fn clear(table: &mut [u64; 1024], t: u8)
 }
 
 // Step 1. What lies in the rows of an unused slot is not judged, so they are cleared here.
+#[tactic(auto, unfolding(crate::specs::Life::begin_tests, tables::specs::Tests::refusal))]
 pub fn begin(
     cut: bool,
     slot: Slot,
@@ -82,6 +83,7 @@ pub fn begin(
 // ---- step 2, write
 
 // The last write of a cell counts.
+#[tactic(auto, unfolding(crate::specs::Life::write_tests, tables::specs::Tests::refusal))]
 pub fn write(cut: bool, slot: Slot, c: Counters, x: Step, writes: &mut [u64; 1024]) -> Turn
     requires { (x.slot < 32) × (x.cell < 32) }
     ensures { (result ≡ stepped (refusal (write_tests slot)) cut slot c 0 (write_turn slot c)) × (writes.new ≡ changed (refusal (write_tests slot)) cut writes.old (written writes.old x)) }
@@ -104,6 +106,7 @@ pub fn write(cut: bool, slot: Slot, c: Counters, x: Step, writes: &mut [u64; 102
 
 // ---- step 9, give up
 
+#[tactic(auto, unfolding(crate::specs::Life::give_up_tests, tables::specs::Tests::refusal))]
 pub fn give_up(cut: bool, slot: Slot, c: Counters) -> Turn
     ensures { result ≡ stepped (refusal (give_up_tests slot)) cut slot c 0 (end_turn slot c) }
 {

@@ -26,6 +26,7 @@ fn wide(b: u8) -> u32
 }
 
 // The one test of what is wholly there, for whoever reads, moves on or stores.
+#[tactic(auto, unfolding(crate::specs::Little::fits))]
 fn fits(len: usize, at: usize, k: usize) -> bool
     ensures { result ≡ fits_of len at k }
 {

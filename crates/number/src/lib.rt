@@ -27,6 +27,7 @@ pub fn propose(node: u8, counter: u32) -> Proposal
 }
 
 // A number, unless it is above the largest that there is.
+#[tactic(auto, unfolding(crate::specs::Proposal::up_to_top))]
 fn within(k: u64) -> Proposal
     ensures { result_of result ≡ up_to_top k }
 {

@@ -11,7 +11,7 @@ use Rattle.kinds.specs.declared.Step.{Step}
 use Rattle.runfile.specs.declared.Head.{Head}
 use Rattle.runfile.specs.declared.Opened.{Opened}
 use Rattle.runfile.specs.declared.Verdict.TheVariants.{Sound}
-use Rattle.runfile.specs.File.{Cell, got, fault, and_then, at_end, read_count, read_counter, read_cell, read_step, read_items, read_file}
+use Rattle.runfile.specs.File.{Cell, File, got, fault, and_then, at_end, read_count, read_counter, read_cell, read_step, read_items, read_file}
 use Rattle.runfile.specs.Parts.{steps_start, step_in}
 use Rattle.runfile.specs.Head.{padded, firsts, cell_in, head_of, empty_head, opened_of, head_with, file_with, Told, FrontTold}
 use Rattle.runfile.proofs.Rows.{firsts_size, firsts_map}
@@ -129,6 +129,12 @@ module _ (b : List ℕ) (h : Head) (t : FrontTold b 0 h) where
         )
 
 -- ---- what opening comes to
+
+pub end_over : (f : File) (r : List ℕ) → 0 < length r → at_end f r ≡ fault 36
+end_over f [] p = absurd (omega arith)
+end_over f (x ∷ r) p = refl
+
+pub ruleset end_laws = (end_over, length-drop)
 
 pub opened_faulty : (b : List ℕ) (code : ℕ) (r : Opened) → r ≡ opened_of (fault code) → read_file b ≡ fault code → r ≡ opened_of (read_file b)
 opened_faulty b code r e q = e ∙ ap opened_of (sym q)

@@ -46,6 +46,7 @@ fn refused(code: u8) -> Opened
 
 // What any bytes of any length come to: the run that they are the file of, or their first fault by place. The steps are judged where they
 // stand and are not copied.
+#[tactic(auto, using(crate::proofs::Opening::end_laws))]
 pub fn open(file: &[u8]) -> Opened
     ensures { result ≡ opened_of (read_file file.now) }
 {

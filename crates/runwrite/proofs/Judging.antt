@@ -140,7 +140,7 @@ module _ (h : Head) (words : List ℕ) where
   steps_bad = ap (some_bad fields_sound) (map_firsts step_of words) ∙ bad_every fields_sound (length words) (λ i. step_of (at words i 0))
 
   -- the faults by the head's own tables
-  fault_shape :
+  pub fault_shape :
       fault_of (file_of h words)
       ≡ cond (not (leb 1 h.nodes && leb h.nodes 8) || not (leb 1 h.cells && leb h.cells 32)) (some 33)
       (cond (not masks_pass) (some 34) (cond (not (leb (length words) 4096)) (some 33) (cond (not steps_pass) (some 35) none)))

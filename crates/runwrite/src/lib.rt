@@ -29,6 +29,7 @@ fn wide(b: u8) -> usize
 // Writes the file of a run from the front of the output on, or gives the code of the run's first fault by place, or 37 where the output is
 // too short; 0 for none. A refusal writes nothing, and no byte past the file is touched. Steps are numbers of eight bytes, so that no two
 // parameters can contradict each other: as many as there are count, and the head's own count of steps is not looked at.
+#[tactic(auto, using(crate::proofs::Writing::size_is), unfolding(crate::specs::Writing::written))]
 pub fn write(head: Head, steps: &[u64], out: &mut [u8]) -> u8
     ensures { (result ≡ (written (file_of head steps.now) out.old).code)
         × (out.new ≡ (written (file_of head steps.now) out.old).out) }

@@ -78,6 +78,7 @@ fn counts_sound(nodes: u8, cells: u8) -> bool
 }
 
 // The code of the first fault by place that a run has; 0 for none.
+#[tactic(auto, using(crate::proofs::Judging::fault_shape))]
 pub(crate) fn fault_of(head: Head, steps: &[u64]) -> u8
     ensures { Judged (file_of head steps.now) result }
 {

@@ -25,6 +25,7 @@ pub struct After {
 }
 
 // The node whose counters the step may move.
+#[tactic(auto, unfolding(kinds::specs::Kinds::named, tables::specs::Table::at))]
 pub fn place(x: Step, slot: Slot) -> u8
     ensures { result ≡ node_of (named x.kind) slot x.node }
 {
@@ -139,6 +140,7 @@ pub fn step_whole(
 }
 
 // The step of any state: refused with 15 where it is not whole.
+#[tactic(auto, unfolding(crate::specs::Steps::step_of))]
 pub fn step(
     g: Group,
     flight: &mut [u64; 256],

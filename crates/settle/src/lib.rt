@@ -25,6 +25,7 @@ enum Found {
 // ---- rule E, apply
 
 // One turn of the search: an unfinished entry with a smaller number takes the place of what was found before.
+#[tactic(auto, unfolding(tables::specs::Loop::lesser))]
 fn closer(flight: &[u64; 256], node: u8, t: u8, best: Found) -> Found
     requires { (t < 32) × (node < 8) × (number_of best ≡ applied flight.now node (slot_of best)) }
     ensures { (slot_of result ≡ cond (unfinished flight.now t node) (lesser (λ i. number_at flight.now i node) t (slot_of best)) (slot_of best)) × (number_of result ≡ applied flight.now node (slot_of result)) }
@@ -106,6 +107,7 @@ fn store(
 
 // Rule E. The unfinished entry with the least number, if its decision is learned, is applied: its versions are added, the commit number
 // becomes its number, the entry goes.
+#[tactic(auto, unfolding(tables::specs::Tests::refusal))]
 pub fn apply(
     cut: bool,
     slot: Slot,

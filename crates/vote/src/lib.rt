@@ -281,6 +281,7 @@ fn cast(
 }
 
 // Rule C, at the node whose counters these are. A prepare is taken only where one was sent and no decision was learned since.
+#[tactic(auto, unfolding(crate::specs::Vote::prepare_tests, tables::specs::Tests::refusal))]
 pub fn prepare(
     cut: bool,
     slot: Slot,

