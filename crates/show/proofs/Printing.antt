@@ -1,7 +1,7 @@
 -- What stands in a space in which a text was placed.
 -- Assumes nothing.
-use mathlib.Core.Path.{◌≡◌, sym, ap, ◌∙◌, subst}
-use mathlib.Core.List.{List, []}
+use mathlib.Core.Path.{◌≡◌, ap, ◌∙◌}
+use mathlib.Core.List.{List}
 use Prim.Native.Nat.{ℕ, ◌≤◌, ◌<◌}
 use native.Mathlib.Omega.{arith}
 use lib.ListN.{length, take, get_or}

@@ -42,3 +42,6 @@ pub fn show<W: Write>(file: &[u8], space: &mut [u8], out: &mut W) -> io::Result<
     }
     Ok(())
 }
+
+#[cfg(test)]
+mod tests;
