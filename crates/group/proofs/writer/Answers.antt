@@ -1,11 +1,9 @@
 -- `group::writer` meets its contract.
 -- Assumes nothing.
 use mathlib.Core.Path.{sym, ◌∙◌}
-use mathlib.Core.Bool.{false}
-use Prim.Native.Nat.{◌-◌}
 use native.Mathlib.Omega.{arith}
 use Rattle.tables.proofs.Loop.{any_none, any_more, any_has, any_end}
-use Rattle.group.specs.State.{writer, has}
+use Rattle.group.specs.State.{writer}
 use Rattle.group.proofs.writer.Goals as goal
 
 pub loop-c-init : goal.loop-c-init

@@ -1,7 +1,6 @@
 -- `life::clear` meets its contract.
 -- Assumes nothing.
 use mathlib.Core.Path.{◌≡◌, sym, ◌∙◌}
-use Prim.Native.Nat.{◌-◌}
 use native.Mathlib.Omega.{arith}
 use Rattle.tables.proofs.Loop.{each_none, each_next}
 use Rattle.life.specs.Life.{cleared}

@@ -1,11 +1,8 @@
 -- `settle::busy` meets its contract.
 -- Assumes nothing.
 use mathlib.Core.Path.{sym, ◌∙◌}
-use mathlib.Core.Bool.{false}
-use Prim.Native.Nat.{◌-◌}
 use native.Mathlib.Omega.{arith}
 use Rattle.tables.proofs.Loop.{any_none, any_more, any_has, any_end}
-use Rattle.group.specs.State.{unfinished}
 use Rattle.settle.proofs.busy.Goals as goal
 
 pub loop-t-init : goal.loop-t-init

@@ -1,7 +1,6 @@
 -- `settle::least` meets its contract.
 -- Assumes nothing.
 use mathlib.Core.Path.{refl, sym}
-use Prim.Native.Nat.{◌-◌}
 use native.Mathlib.Omega.{arith}
 use Rattle.settle.proofs.Laws.{least_none, least_turn, least_end}
 use Rattle.settle.proofs.least.Goals as goal

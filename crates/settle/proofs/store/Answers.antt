@@ -1,7 +1,7 @@
 -- `settle::store` meets its contract.
 -- Assumes nothing.
 use mathlib.Core.Path.{sym}
-use Prim.Native.Nat.{◌<◌, ◌-◌}
+use Prim.Native.Nat.{◌<◌}
 use native.Mathlib.Omega.{arith}
 use Rattle.settle.proofs.Laws.{stored_none, stored_turn, stored_end}
 use Rattle.settle.proofs.store.Goals as goal

@@ -1,11 +1,9 @@
 -- `vote::conflict` meets its contract.
 -- Assumes nothing.
 use mathlib.Core.Path.{sym, ◌∙◌}
-use mathlib.Core.Bool.{false}
-use Prim.Native.Nat.{◌-◌}
 use native.Mathlib.Omega.{arith}
 use Rattle.tables.proofs.Loop.{any_none, any_more, any_has, any_end}
-use Rattle.vote.specs.Vote.{rival, conflict}
+use Rattle.vote.specs.Vote.{conflict}
 use Rattle.vote.proofs.conflict.Goals as goal
 
 pub loop-u-init : goal.loop-u-init

@@ -1,11 +1,8 @@
 -- `vote::full` meets its contract.
 -- Assumes nothing.
 use mathlib.Core.Path.{sym, ◌∙◌}
-use mathlib.Core.Bool.{false}
-use Prim.Native.Nat.{◌-◌}
 use native.Mathlib.Omega.{arith}
 use Rattle.tables.proofs.Loop.{any_none, any_more, any_has, any_end}
-use Rattle.vote.specs.Vote.{crammed}
 use Rattle.vote.proofs.full.Goals as goal
 
 pub loop-cell-init : goal.loop-cell-init

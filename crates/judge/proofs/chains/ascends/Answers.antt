@@ -1,6 +1,5 @@
 -- `judge::chains::ascends` meets its contract: the steps from a version to the next are tried.
 -- Assumes nothing.
-use Prim.Native.Nat.{◌-◌}
 use Rattle.whole.proofs.Laws.{begun, turned, ended}
 use Rattle.judge.proofs.chains.ascends.Goals as goal
 

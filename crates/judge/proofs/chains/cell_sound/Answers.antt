@@ -1,6 +1,5 @@
 -- `judge::chains::cell_sound` meets its contract: the chains at the nodes passed are tried.
 -- Assumes nothing.
-use Prim.Native.Nat.{◌-◌}
 use Rattle.whole.proofs.Laws.{begun, turned, ended}
 use Rattle.judge.proofs.chains.cell_sound.Goals as goal
 

@@ -1,6 +1,5 @@
 -- `judge::chains::chains_sound` meets its contract: the chains of the cells passed are tried.
 -- Assumes nothing.
-use Prim.Native.Nat.{◌-◌}
 use Rattle.whole.specs.Whole.{chains_sound}
 use Rattle.whole.proofs.Laws.{begun, turned, ended}
 use Rattle.judge.proofs.chains.chains_sound.Goals as goal

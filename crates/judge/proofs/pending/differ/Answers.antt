@@ -1,6 +1,5 @@
 -- `judge::pending::differ` meets its contract: the transactions passed are tried.
 -- Assumes nothing.
-use Prim.Native.Nat.{◌-◌}
 use Rattle.whole.proofs.Laws.{begun, turned, ended}
 use Rattle.judge.proofs.pending.differ.Goals as goal
 

@@ -1,6 +1,5 @@
 -- `judge::pending::fits` meets its contract: the cells passed are tried.
 -- Assumes nothing.
-use Prim.Native.Nat.{◌-◌}
 use Rattle.whole.proofs.Laws.{begun, turned, ended}
 use Rattle.judge.proofs.pending.fits.Goals as goal
 

@@ -1,6 +1,5 @@
 -- `judge::pending::node_sound` meets its contract: the entries of the transactions passed are tried.
 -- Assumes nothing.
-use Prim.Native.Nat.{◌-◌}
 use Rattle.whole.proofs.Laws.{begun, turned, ended}
 use Rattle.judge.proofs.pending.node_sound.Goals as goal
 

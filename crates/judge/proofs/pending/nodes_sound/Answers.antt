@@ -1,6 +1,5 @@
 -- `judge::pending::nodes_sound` meets its contract: the entries at the nodes passed are tried.
 -- Assumes nothing.
-use Prim.Native.Nat.{◌-◌}
 use Rattle.whole.proofs.Laws.{begun, turned, ended}
 use Rattle.judge.proofs.pending.nodes_sound.Goals as goal
 
