@@ -1,6 +1,6 @@
 -- `settle::apply` meets its contract: one law for each of its ends.
 -- Assumes nothing.
-use Rattle.settle.proofs.Laws.{found_at, apply_nothing, apply_not_learned, apply_cut, apply_whole}
+use Rattle.settle.proofs.Laws.{found_at}
 use Rattle.settle.proofs.apply.Goals as goal
 
 pub tag-requires : goal.tag-requires
