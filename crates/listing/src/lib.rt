@@ -47,6 +47,7 @@ fn reply_of(a: Answer) -> Reply
 }
 
 // The line of step i, written or only counted.
+#[tactic(auto, using(text::proofs::Placed::after_in), unfolding(crate::specs::Listing::line_for))]
 fn put_line(out: &mut [u8], at: usize, write: bool, i: u32, a: Answer) -> usize
     requires { (at ≤ 200000) × (write ≡ true → at + length (line_for i a) ≤ length out.old) }
     ensures { (result ≡ at + length (line_for i a)) × (out.new ≡ shown write out.old at (line_for i a)) }
