@@ -4,12 +4,12 @@ use mathlib.Core.Path.{◌≡◌, refl, sym, ap, ap₂, ◌∙◌}
 use Prim.Native.Nat.{ℕ, zero, suc, ◌+◌, ◌*◌, ◌-◌, ◌/◌, ◌%◌, ◌^◌, ◌≤◌, ◌<◌}
 use mathlib.Core.Bool.{true, false, ◌&&◌}
 use mathlib.Core.List.{List, [], ◌∷◌, ◌++◌, append_assoc}
-use mathlib.Core.Option.{none, some}
-use native.Mathlib.Nat.{le_of_eq, add-zero, sub-zero, pow-succ', pow-le-pow_right}
+use Rattle.std.specs.Prelude.{Some, None}
+use native.Mathlib.Nat.{add-zero, sub-zero, pow-succ', pow-le-pow_right}
 use native.Mathlib.Omega.{arith}
 use lib.Dec.{leb, lit<}
-use lib.ListN.{length, take, drop, get_or, set, length-take, length-drop, drop_of_length-le}
-use lib.Seq.{take_all, take_at, drop_at, take-set-le, drop-set-lt, drop-cons, get_or-take, get_or-drop, length-take-le, sets, sets-eq, length-sets}
+use lib.ListN.{length, take, drop, get_or, set, length-take, length-drop}
+use lib.Seq.{take_at, drop_at, take-set-le, drop-set-lt, drop-cons, get_or-take, get_or-drop, length-take-le, sets, sets-eq, length-sets}
 use borrow.Author.Tests.{le-leb, lt-leb, leb-true, leb-false}
 use Rattle.tables.specs.Table.{at}
 use Rattle.tables.proofs.Choice.{by_test, and_true}
@@ -97,11 +97,11 @@ module _ (len i k : ℕ) where
 -- ---- reading, from the top byte down
 
 module _ (s : List ℕ) (i k : ℕ) where
-  pub number_in : fits (length s) i k ≡ true → number_at s i k ≡ some (little (take k (drop i s)))
+  pub number_in : fits (length s) i k ≡ true → number_at s i k ≡ Some (little (take k (drop i s)))
   unfolding number_at
   number_in e = rw e
 
-  pub number_out : fits (length s) i k ≡ false → number_at s i k ≡ none
+  pub number_out : fits (length s) i k ≡ false → number_at s i k ≡ None
   unfolding number_at
   number_out e = rw e
 
@@ -121,7 +121,7 @@ module _ (s : List ℕ) (i k : ℕ) where
       let b : i + (j - 1) < length s = omega arith in
       rw (e, f, drop-cons s (i + (j - 1)) 0 b)
 
-  pub high_all : fits (length s) i k ≡ true → number_at s i k ≡ some (high 0)
+  pub high_all : fits (length s) i k ≡ true → number_at s i k ≡ Some (high 0)
   unfolding high
   high_all e = rw (add-zero i, sub-zero k) (number_in e)
 
@@ -183,11 +183,11 @@ module _ (out : List ℕ) (i k x : ℕ) where
       stored_in e ∙ sets-eq (digits k x) out i (omega arith) ∙ rw (m, append_assoc)
 
   -- it is read back
-  pub number_stored : fits (length out) i k ≡ true → x < 256 ^ k → number_at (stored out i k x) i k ≡ some x
+  pub number_stored : fits (length out) i k ≡ true → x < 256 ^ k → number_at (stored out i k x) i k ≡ Some x
   number_stored e h =
       let l = fits_true (length out) i k e in
       number_in (stored out i k x) i k (rw stored_size e)
-      ∙ ap some (rw (
+      ∙ ap Some (rw (
         stored_parts e,
         drop_at (take i out) (digits k x ++ drop (i + k) out) i (length-take-le i out (omega arith)),
         take_at (digits k x) (drop (i + k) out) k (digits_size k x),
@@ -211,12 +211,3 @@ rest_next out i k x j h =
     let e : k - j ≡ suc (k - (j + 1)) = omega arith in
     let f : i + (j + 1) ≡ suc (i + j) = omega arith in
     rw (e, f)
-
--- ---- the bytes from a place on
-
-module _ (s : List ℕ) (i : ℕ) where
-  pub tail_all : take (length s - i) (drop i s) ≡ drop i s
-  tail_all = take_all _ _ (le_of_eq (length-drop i s))
-
-  pub tail_past : length s ≤ i → take (length s - length s) (drop (length s) s) ≡ drop i s
-  tail_past h = let e : length s - length s ≡ 0 = omega arith in rw (e, drop_of_length-le s h)

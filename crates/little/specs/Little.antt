@@ -1,16 +1,8 @@
 -- Little-endian numbers in bytes: what number stands at a place, and what bytes become where a number is stored. A number has up to 4 bytes.
 -- Assumes nothing.
-use Rattle.std.specs.Prelude.{◌≡◌, ℕ, zero, suc, ◌+◌, ◌*◌, ◌/◌, ◌%◌, min, Bool, cond, ◌&&◌, List, [], ◌∷◌, leb, length, take, drop}
-use Rattle.std.proofs.Math.Option.{Option, none, some}
+use Rattle.std.specs.Prelude.{◌≡◌, ℕ, zero, suc, ◌+◌, ◌*◌, ◌/◌, ◌%◌, min, Bool, cond, ◌&&◌, List, [], ◌∷◌, Option, None, Some, leb, length, take, drop}
 use Rattle.std.proofs.lemmas.List.Edits.{sets}
 use Rattle.std.specs.Borrow.{Bor}
-use Rattle.little.specs.declared.Number.{Number}
-use Rattle.little.specs.declared.Number.TheVariants.{Is, Missing}
-
--- what an answer stands for: a number, or none
-abbrev pub result_of : Number → Option ℕ
-result_of (Is x) = some x
-result_of Missing = none
 
 -- the number that bytes stand for, the least byte first
 unfoldable pub little : List ℕ → ℕ
@@ -28,7 +20,7 @@ fits len i k = leb k 4 && leb (i + k) len
 
 -- the number of the k bytes at a place; none where they are not wholly there
 unfoldable pub number_at : List ℕ → ℕ → ℕ → Option ℕ
-number_at s i k = cond (fits (length s) i k) (some (little (take k (drop i s)))) none
+number_at s i k = cond (fits (length s) i k) (Some (little (take k (drop i s)))) None
 
 -- the place past k bytes; the same place where they are not wholly there
 unfoldable pub place_after : ℕ → ℕ → ℕ → ℕ

@@ -1,12 +1,9 @@
 -- `little::number_at` meets its contract. The loop's invariant: x is what the bytes that were read stand for, and as many bytes hold it.
 -- Assumes nothing.
 use mathlib.Core.Path.{◌≡◌}
-use Prim.Native.Nat.{◌-◌, ◌^◌, ◌≤◌, ◌<◌}
+use Prim.Native.Nat.{◌-◌, ◌^◌, ◌<◌}
 use Rattle.little.proofs.Laws.{high}
 use Rattle.little.proofs.number_at.Given as goal
 
-abbrev pub invariant-loop-left : goal.invariant-loop-left
-invariant-loop-left l = (l.left ≤ l.k) × (l.x ≡ high l.s l.at l.k l.left) × (l.x < 256 ^ (l.k - l.left))
-
-abbrev pub decreases-loop-left : goal.decreases-loop-left
-decreases-loop-left l = l.left
+abbrev pub invariant-loop-i : goal.invariant-loop-i
+invariant-loop-i l = (l.x ≡ high l.s l.at l.k l.i) × (l.x < 256 ^ (l.k - l.i))
