@@ -4,7 +4,8 @@
 use mathlib.Core.Path.{◌≡◌, refl, sym, ap, ap₂, ◌∙◌}
 use mathlib.Core.Bool.{Bool, true, false, cond, not, ◌&&◌}
 use mathlib.Core.List.{List, [], ◌∷◌, ◌++◌, append_assoc, append-nil}
-use mathlib.Core.Option.{Option, none, some, some-ne-none}
+use Rattle.std.specs.Prelude.{Option, None, Some}
+use Rattle.std.proofs.lemmas.Option.{none-some}
 use Prim.Native.Nat.{ℕ, ◌%◌, ◌^◌, ◌≤◌, ◌<◌}
 use native.Mathlib.Nat.{pow-le-pow_right}
 use native.Mathlib.Omega.{arith}
@@ -13,9 +14,11 @@ use lib.ListN.{length}
 use borrow.Author.Tests.{le-leb, leb-true, ltb-true, not-false}
 use Rattle.tables.proofs.Choice.{or_false, and_true}
 use Rattle.kinds.specs.declared.Step.{Step}
+use Rattle.runfile.specs.declared.Fault.{Fault}
+use Rattle.runfile.specs.declared.Fault.TheVariants.{LeftOver}
 use Rattle.little.specs.Little.{digits}
 use Rattle.little.proofs.Laws.{Bytes}
-use Rattle.runfile.specs.File.{Cell, File, Read, got, fault, read_count, read_counter, read_cell, read_step, read_items, read_file, at_end, joined, cell_bytes, step_bytes, mask_sound, fields_sound, fault_of, bytes_of}
+use Rattle.runfile.specs.File.{Cell, File, Read, code_of, got, fault, read_count, read_counter, read_cell, read_step, read_items, read_file, at_end, joined, cell_bytes, step_bytes, mask_sound, fields_sound, fault_of, bytes_of}
 use Rattle.runfile.proofs.Items.{then, and_then_lem, Coded, fine, code, coded_then, All, all_map, all_both, all_any, bad_none, none_bad, item_written, item_read, item_coded, items_written, items_read, items_coded}
 use Rattle.runfile.proofs.FileItems.{counter_item, count_item, CellFits, StepFits, cell_item, step_item, count_reader, counter_reader, cell_reader, step_reader}
 
@@ -82,14 +85,14 @@ pub record Passes (f : File) : Type 0 where
   pub steps_high : length f.steps ≤ 4096
   pub fields : All (λ (x : Step). fields_sound x ≡ true) f.steps
 
-not_coded : (t : Bool) (c : ℕ) (x : Option ℕ) → cond t (some c) x ≡ none → (t ≡ false) × (x ≡ none)
-not_coded true c x e = absurd (some-ne-none c e)
+not_coded : (t : Bool) (c : Fault) (x : Option Fault) → cond t (Some c) x ≡ None → (t ≡ false) × (x ≡ None)
+not_coded true c x e = absurd (none-some c (sym e))
 not_coded false c x e = (refl, e)
 
 within : (low x high : ℕ) → not (leb low x && leb x high) ≡ false → (low ≤ x) × (x ≤ high)
 within low x high e = let q = and_true _ _ (not-false _ e) in (leb-true _ _ q.0, leb-true _ _ q.1)
 
-pub passes_when : (f : File) → fault_of f ≡ none → Passes f
+pub passes_when : (f : File) → fault_of f ≡ None → Passes f
 unfolding fault_of
 passes_when f e =
     let q₁ = not_coded _ _ _ e in
@@ -108,7 +111,7 @@ passes_when f e =
       fields = none_bad _ f.steps q₄.0;
     }
 
-pub no_fault_when : (f : File) → Passes f → fault_of f ≡ none
+pub no_fault_when : (f : File) → Passes f → fault_of f ≡ None
 unfolding fault_of
 no_fault_when f p =
     rw (
@@ -123,7 +126,7 @@ no_fault_when f p =
 
 -- sound: no fault, and every number fits its bytes. That a mask fits follows
 pub record Sound (f : File) : Type 0 where
-  pub no_fault : fault_of f ≡ none
+  pub no_fault : fault_of f ≡ None
   pub counters_fit : All (λ (x : ℕ). x < 256 ^ 4) f.counters
   pub values_fit : All (λ (c : Cell). c.value < 256 ^ 4) f.cells
   pub steps_fit : All StepFits f.steps
@@ -252,12 +255,12 @@ file_coded b =
   where
     ended : (f : File) (rest : List ℕ) → Coded (at_end f rest)
     ended f [] = fine
-    ended f (x ∷ xs) = code {c = 36} (omega arith) (omega arith)
+    ended f (x ∷ xs) = code {c = LeftOver} (omega arith) (omega arith)
 
--- the file of this run, or the fault with this code
+-- the file of this run, or this fault, whose number is from 32 to 36
 pub data Outcome (b : List ℕ) : Type 0 where
   stands : (f : File) → Sound f → b ≡ bytes_of f → read_file b ≡ got f [] → Outcome b
-  faulty : (c : ℕ) → 32 ≤ c → c ≤ 36 → read_file b ≡ fault c → Outcome b
+  faulty : (c : Fault) → 32 ≤ code_of c → code_of c ≤ 36 → read_file b ≡ fault c → Outcome b
 
 pub outcome : (b : List ℕ) → Bytes b → Outcome b
 outcome b h = go (read_file b) refl (file_coded b)
@@ -267,8 +270,8 @@ outcome b h = go (read_file b) refl (file_coded b)
     go (fault c) e (code l m) = faulty c l m e
 
 -- never both, and never two of one
-pub not_both_ways : (f : File) (c : ℕ) → Sound f → read_file (bytes_of f) ≡ fault c → ⊥
+pub not_both_ways : (f : File) (c : Fault) → Sound f → read_file (bytes_of f) ≡ fault c → ⊥
 not_both_ways f c s e = let q = read_written f s in let z : ◌≡◌ {A = ℕ} 0 1 = cc in omega arith
 
-pub one_fault : (b : List ℕ) (c d : ℕ) → read_file b ≡ fault c → read_file b ≡ fault d → c ≡ d
+pub one_fault : (b : List ℕ) (c d : Fault) → read_file b ≡ fault c → read_file b ≡ fault d → c ≡ d
 one_fault b c d e q = cc

@@ -9,6 +9,7 @@ use lib.Dec.{leb}
 use lib.ListN.{length}
 use Rattle.tables.specs.Table.{at}
 use Rattle.kinds.specs.declared.Step.{Step}
+use Rattle.runfile.specs.declared.Fault.TheVariants.{Count, Mask, Field}
 use Rattle.little.specs.Little.{little, digits}
 use Rattle.little.proofs.Laws.{Bytes, digits_size, little_digits, digits_little, little_low}
 use Rattle.runfile.specs.File.{Cell, read_count, read_counter, read_cell, read_step, cell_bytes, cell_from, step_bytes, step_from, mask_sound, fields_sound}
@@ -31,7 +32,7 @@ number_item k ok = record {
   from = little;
   bytes = digits k;
   ok = ok;
-  code = 33;
+  code = Count;
   Fit = λ x. x < 256 ^ k;
   size = digits_size k;
   from_bytes = little_digits k;
@@ -76,7 +77,7 @@ cell_item nodes = record {
   from = cell_from;
   bytes = cell_bytes;
   ok = λ c. mask_sound nodes c.mask;
-  code = 34;
+  code = Mask;
   Fit = CellFits;
   size = cell_size;
   from_bytes = cell_from_bytes;
@@ -120,7 +121,7 @@ step_item = record {
   from = step_from;
   bytes = step_bytes;
   ok = fields_sound;
-  code = 35;
+  code = Field;
   Fit = StepFits;
   size = step_size;
   from_bytes = step_from_bytes;

@@ -12,8 +12,10 @@ use lib.Seq.{take_at, drop-cons, drop-append-add, drop_at, length-take-le, get_o
 use borrow.Author.Tests.{le-leb, leb-true, leb-false, not-false}
 use Rattle.tables.specs.Table.{at}
 use Rattle.tables.proofs.Choice.{by_test, or_false}
+use Rattle.runfile.specs.declared.Fault.{Fault}
+use Rattle.runfile.specs.declared.Fault.TheVariants.{Short}
 use Rattle.little.proofs.Laws.{Bytes}
-use Rattle.runfile.specs.File.{Read, got, fault, and_then, read_bytes, tested, read_items, joined, some_bad}
+use Rattle.runfile.specs.File.{Read, code_of, got, fault, and_then, read_bytes, tested, read_items, joined, some_bad}
 
 -- ---- what was read, taken apart
 
@@ -24,10 +26,10 @@ pub and_then_lem : {A B : Type 0} (x : Read A) (f : A → List ℕ → Read B) (
 and_then_lem (got a r) f b s e = then a r refl e
 and_then_lem (fault c) f b s e = absurd (let z : ◌≡◌ {A = ℕ} 0 1 = cc in omega arith)
 
--- a fault has a code from 32 to 36
+-- a fault's number is from 32 to 36
 pub data Coded {A : Type 0} : Read A → Type 0 where
   fine : {a : A} {r : List ℕ} → Coded (got a r)
-  code : {c : ℕ} → 32 ≤ c → c ≤ 36 → Coded (fault c)
+  code : {c : Fault} → 32 ≤ code_of c → code_of c ≤ 36 → Coded (fault c)
 
 pub coded_then : {A B : Type 0} (x : Read A) (f : A → List ℕ → Read B) → Coded x → ((a : A) (r : List ℕ) → Coded (f a r)) → Coded (and_then x f)
 coded_then (got a r) f k g = g a r
@@ -56,14 +58,14 @@ pub record Item (A : Type 0) : Type 1 where
   pub from : List ℕ → A
   pub bytes : A → List ℕ
   pub ok : A → Bool
-  pub code : ℕ
+  pub code : Fault
   -- its numbers fit the bytes that they have
   pub Fit : A → Type 0
   pub size : (a : A) → length (bytes a) ≡ width
   pub from_bytes : (a : A) → Fit a → from (bytes a) ≡ a
   pub bytes_from : (i : List ℕ) → length i ≡ width → Bytes i → bytes (from i) ≡ i
   pub fit_from : (i : List ℕ) → length i ≡ width → Bytes i → Fit (from i)
-  pub coded : (32 ≤ code) × (code ≤ 36)
+  pub coded : (32 ≤ code_of code) × (code_of code ≤ 36)
 
 module _ {A : Type 0} (I : Item A) where
   unfoldable pub read_item : List ℕ → Read A
@@ -74,11 +76,11 @@ module _ {A : Type 0} (I : Item A) where
 
   -- the three ways that it goes
   pub data Went (b : List ℕ) : Read A → Type 0 where
-    cut : length b < I.width → Went b (fault 32)
+    cut : length b < I.width → Went b (fault Short)
     bad : I.width ≤ length b → I.ok (I.from (take I.width b)) ≡ false → Went b (fault I.code)
     good : I.width ≤ length b → I.ok (I.from (take I.width b)) ≡ true → Went b (got (I.from (take I.width b)) (drop I.width b))
 
-  pub item_cut : (b : List ℕ) → leb I.width (length b) ≡ false → read_item b ≡ fault 32
+  pub item_cut : (b : List ℕ) → leb I.width (length b) ≡ false → read_item b ≡ fault Short
   unfolding read_item read_bytes
   item_cut b e = rw e
 
@@ -104,7 +106,7 @@ module _ {A : Type 0} (I : Item A) where
   item_coded b = go (read_item b) (went b)
     where
       go : (r : Read A) → Went b r → Coded r
-      go (fault c) (cut l) = code {c = 32} (omega arith) (omega arith)
+      go (fault c) (cut l) = code {c = Short} (omega arith) (omega arith)
       go (fault c) (bad l q) = code I.coded.0 I.coded.1
       go (got a s) (good l q) = fine
 

@@ -11,6 +11,8 @@ use lib.Seq.{length-take-le, take-append-le, drop-append-le}
 use borrow.Author.Tests.{le-leb, leb-true}
 use Rattle.tables.specs.Table.{at}
 use Rattle.tables.proofs.Choice.{by_test, and_true}
+use Rattle.runfile.specs.declared.Fault.{Fault}
+use Rattle.runfile.specs.declared.Fault.TheVariants.{Short, Count, Mask, Field}
 use Rattle.little.specs.Little.{little}
 use Rattle.runfile.specs.File.{File, Read, got, fault, and_then, read_bytes, tested, read_count, read_counter, read_cell, read_step, read_items, at_end, read_file, mask_sound, fields_sound, cell_from, step_from}
 use Rattle.runfile.proofs.Items.{and_then_lem}
@@ -19,7 +21,7 @@ use Rattle.runfile.proofs.Items as Items
 -- x is what some bytes give, y what they give with q after them: the same, and at least n bytes are left
 data Same {A : Type 0} (q : List ℕ) (n : ℕ) (x y : Read A) : Type 0 where
   same_got : (a : A) (rest : List ℕ) → x ≡ got a rest → y ≡ got a (rest ++ q) → n ≤ length rest → Same q n x y
-  same_fault : (c : ℕ) → x ≡ fault c → y ≡ fault c → Same q n x y
+  same_fault : (c : Fault) → x ≡ fault c → y ≡ fault c → Same q n x y
 
 module _ (q : List ℕ) where
   then :
@@ -38,7 +40,7 @@ module _ (q : List ℕ) where
 
   -- an item of k bytes that is made of them and tested
   item_same :
-      {A : Type 0} (k n : ℕ) (ok : List ℕ → Bool) (code : ℕ) (from : List ℕ → A) (p : List ℕ) → k + n ≤ length p
+      {A : Type 0} (k n : ℕ) (ok : List ℕ → Bool) (code : Fault) (from : List ℕ → A) (p : List ℕ) → k + n ≤ length p
       → Same q n (and_then (read_bytes k p) (λ i rest. tested (ok i) code (from i) rest)) (and_then (read_bytes k (p ++ q)) (λ i rest. tested (ok i) code (from i) rest))
   item_same k n ok code from p h =
       then n n (read_bytes k p) (read_bytes k (p ++ q)) (λ i rest. tested (ok i) code (from i) rest) (bytes_same k n p h) (λ i rest e l.
@@ -56,21 +58,21 @@ module _ (q : List ℕ) where
 
   count_same : (k low high n : ℕ) (p : List ℕ) → k + n ≤ length p → Same q n (read_count k low high p) (read_count k low high (p ++ q))
   unfolding read_count
-  count_same k low high n p h = item_same k n (λ i. leb low (little i) && leb (little i) high) 33 little p h
+  count_same k low high n p h = item_same k n (λ i. leb low (little i) && leb (little i) high) Count little p h
 
   counter_same : (n : ℕ) (p : List ℕ) → 4 + n ≤ length p → Same q n (read_counter p) (read_counter (p ++ q))
   unfolding read_counter
-  counter_same n p h = item_same 4 n (λ i. true) 0 little p h
+  counter_same n p h = item_same 4 n (λ i. true) Short little p h
 
   cell_same : (nodes n : ℕ) (p : List ℕ) → 5 + n ≤ length p → Same q n (read_cell nodes p) (read_cell nodes (p ++ q))
   unfolding read_cell at
-  cell_same nodes n p h = item_same 5 n (λ i. mask_sound nodes (at i 0 0)) 34 cell_from p h
+  cell_same nodes n p h = item_same 5 n (λ i. mask_sound nodes (at i 0 0)) Mask cell_from p h
 
   step_same : (n : ℕ) (p : List ℕ) → 8 + n ≤ length p → Same q n (read_step p) (read_step (p ++ q))
   unfolding read_step
-  step_same n p h = item_same 8 n (λ i. fields_sound (step_from i)) 35 step_from p h
+  step_same n p h = item_same 8 n (λ i. fields_sound (step_from i)) Field step_from p h
 
-tested_got : (ok : Bool) (code a x : ℕ) (r rest : List ℕ) → tested ok code a r ≡ got x rest → (ok ≡ true) × (a ≡ x)
+tested_got : (ok : Bool) (code : Fault) (a x : ℕ) (r rest : List ℕ) → tested ok code a r ≡ got x rest → (ok ≡ true) × (a ≡ x)
 tested_got true code a x r rest e = (refl, cc)
 tested_got false code a x r rest e = absurd (let z : ◌≡◌ {A = ℕ} 0 1 = cc in omega arith)
 
@@ -80,7 +82,7 @@ unfolding read_count
 count_high k low high p x rest e =
     elim (and_then_lem (read_bytes k p) _ x rest e) [
       | Items.then i r e₁ h ↦
-          let t = tested_got (leb low (little i) && leb (little i) high) 33 (little i) x r rest h in
+          let t = tested_got (leb low (little i) && leb (little i) high) Count (little i) x r rest h in
           rw t.1 at (leb-true (little i) high (and_true (leb low (little i)) (leb (little i) high) t.0).1)
     ]
 

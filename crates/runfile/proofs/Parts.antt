@@ -3,8 +3,9 @@
 use mathlib.Core.Path.{◌≡◌, sym, ap, ◌∙◌}
 use mathlib.Core.Bool.{cond}
 use mathlib.Core.List.{List, [], ◌++◌, append_assoc, append-nil}
-use mathlib.Core.Option.{none, some, some-ne-none}
-use Prim.Native.Nat.{ℕ, ◌+◌, ◌*◌, ◌-◌, ◌/◌, ◌≤◌, ◌<◌}
+use Rattle.std.specs.Prelude.{None, Some}
+use Rattle.std.proofs.lemmas.Option.{none-some}
+use Prim.Native.Nat.{ℕ, ◌+◌, ◌*◌, ◌/◌, ◌≤◌, ◌<◌}
 use native.Mathlib.Nat.{add-zero, le_of_eq}
 use native.Mathlib.Omega.{arith}
 use lib.Dec.{leb, lit<}
@@ -24,15 +25,15 @@ use Rattle.runfile.proofs.FileItems.{counter_item, cell_item, step_item, StepFit
 
 -- ---- a number at a place
 
-pub number_there : (s : List ℕ) (i k x : ℕ) → number_at s i k ≡ some x → (x ≡ little (take k (drop i s))) × (i + k ≤ length s)
+pub number_there : (s : List ℕ) (i k x : ℕ) → number_at s i k ≡ Some x → (x ≡ little (take k (drop i s))) × (i + k ≤ length s)
 number_there s i k x e =
     by_test (fits (length s) i k) (λ t. (cc (number_in s i k t), (fits_true (length s) i k t).1))
-    (λ t. absurd (some-ne-none x (sym e ∙ number_out s i k t)))
+    (λ t. absurd (none-some x (sym (number_out s i k t) ∙ e)))
 
-pub number_not : (s : List ℕ) (i k : ℕ) → k ≤ 4 → number_at s i k ≡ none → length s < i + k
+pub number_not : (s : List ℕ) (i k : ℕ) → k ≤ 4 → number_at s i k ≡ None → length s < i + k
 number_not s i k h e =
     by_test (leb (i + k) (length s))
-    (λ t. absurd (some-ne-none _ (sym (number_in s i k (fits_in (length s) i k h (leb-true _ _ t))) ∙ e)))
+    (λ t. absurd (none-some _ (sym e ∙ number_in s i k (fits_in (length s) i k h (leb-true _ _ t)))))
     (λ t. leb-false _ _ t)
 
 -- ---- parts of parts
@@ -40,30 +41,14 @@ number_not s i k h e =
 pub drop_take : {A : Type 0} (m n : ℕ) (l : List A) → m ≤ length l → drop m (take (m + n) l) ≡ take n (drop m l)
 drop_take m n l h = rw (take-add m n l) (drop_at (take m l) (take n (drop m l)) m (length-take-le m l h))
 
--- ---- the steps section
-
-module _ (s : List ℕ) (start n : ℕ) where
-  pub part_there : start + n ≤ length s → take (start + n - start) (drop start s) ≡ cond (leb (start + n) (length s)) (take n (drop start s)) []
-  part_there h = let e : start + n - start ≡ n = omega arith in rw (le-leb (start + n) (length s) h, e)
-
-  pub start_there : start + n ≤ length s → start ≡ cond (leb (start + n) (length s)) start (length s)
-  start_there h = rw (le-leb (start + n) (length s) h)
-
-  pub part_not :
-      length s < start + n → take (length s - length s) (drop (length s) s) ≡ cond (leb (start + n) (length s)) (take n (drop start s)) []
-  part_not h = let e : length s - length s ≡ 0 = omega arith in rw (lt-leb (start + n) (length s) h, e)
-
-  pub start_not : length s < start + n → length s ≡ cond (leb (start + n) (length s)) start (length s)
-  start_not h = rw (lt-leb (start + n) (length s) h)
-
 -- ---- a step of it
 
 module _ (part : List ℕ) (i : ℕ) where
-  pub step_not : length part / 8 ≤ i → none ≡ step_at part i
+  pub step_not : length part / 8 ≤ i → None ≡ step_at part i
   unfolding step_at
   step_not h = rw (lt-leb (8 * (i + 1)) (length part) (omega arith))
 
-  pub step_there : 8 * i + 8 ≤ length part → step_at part i ≡ some (step_in part i)
+  pub step_there : 8 * i + 8 ≤ length part → step_at part i ≡ Some (step_in part i)
   unfolding step_at
   step_there h = rw (le-leb (8 * (i + 1)) (length part) (omega arith))
 
@@ -76,7 +61,7 @@ module _ (part : List ℕ) (i : ℕ) where
 
   pub step_in_lem :
       (x : ℕ) → 8 * i + 8 ≤ length part → x ≡ little (take 4 (drop (8 * i + 4) part))
-      → some (record {
+      → Some (record {
         kind = get_or part (8 * i) 0;
         slot = get_or part (8 * i + 1) 0;
         node = get_or part (8 * i + 2) 0;
@@ -88,12 +73,12 @@ module _ (part : List ℕ) (i : ℕ) where
 
   -- of the bytes of steps it is the one at that place
   pub joined_step :
-      (xs : List Step) (d : Step) → part ≡ joined step_bytes xs → All StepFits xs → i < length xs → step_at part i ≡ some (at xs i d)
+      (xs : List Step) (d : Step) → part ≡ joined step_bytes xs → All StepFits xs → i < length xs → step_at part i ≡ Some (at xs i d)
   joined_step xs d e fit h =
       let l : 8 * i + 8 ≤ length part = omega (arith, ap length e, joined_size step_item xs) in
-      step_there l ∙ ap some (ap (λ (p : List ℕ). step_in p i) e ∙ ap step_from (joined_at step_item i xs d h) ∙ step_from_bytes _ (all_at StepFits xs i d fit h))
+      step_there l ∙ ap Some (ap (λ (p : List ℕ). step_in p i) e ∙ ap step_from (joined_at step_item i xs d h) ∙ step_from_bytes _ (all_at StepFits xs i d fit h))
 
-  pub joined_no_step : (xs : List Step) → part ≡ joined step_bytes xs → length xs ≤ i → step_at part i ≡ none
+  pub joined_no_step : (xs : List Step) → part ≡ joined step_bytes xs → length xs ≤ i → step_at part i ≡ None
   joined_no_step xs e h = sym (step_not (omega (arith, ap length e, joined_size step_item xs)))
 
 -- ---- the steps section of a file

@@ -3,7 +3,9 @@
 use mathlib.Core.Path.{◌≡◌, refl, sym, ap, ◌∙◌}
 use mathlib.Core.Bool.{true, false}
 use mathlib.Core.List.{List, [], ◌∷◌, ◌++◌, append_assoc, append-nil}
-use mathlib.Core.Option.{none, some, some-ne-none}
+use Rattle.std.specs.Prelude.{Option, None, Some, Ok}
+use Rattle.std.specs.Option.{ok_or}
+use Rattle.std.proofs.lemmas.Option.{none-some}
 use Prim.Native.Nat.{ℕ, suc, ◌+◌, ◌*◌, ◌-◌, ◌/◌, ◌^◌, ◌≤◌, ◌<◌}
 use native.Mathlib.Nat.{div-eq_of_lt, lt-div-mul-add, add-zero, sub-zero, mul-zero, mul-suc}
 use native.Mathlib.Numerals.{add-one}
@@ -32,23 +34,17 @@ use Rattle.runfile.specs.File.{
   fields_sound,
 }
 use Rattle.runfile.specs.Parts.{step_in, step_at}
-use Rattle.runfile.specs.Head.{Told}
+use Rattle.runfile.specs.declared.Fault.{Fault}
+use Rattle.runfile.specs.declared.Fault.TheVariants.{Short, Count, Mask, Field}
 use Rattle.runfile.proofs.Parts.{number_there, number_not, drop_take, step_there, step_not}
 
-pub told_sound : {A : Type 0} {read : Read A} {a : A} {rest : List ℕ} → read ≡ got a rest → Told read 0 a rest
-told_sound e = record { sound = λ z. e; faulty = λ z. absurd (omega arith) }
+-- ---- what is there, or a fault
 
-pub told_faulty : {A : Type 0} {read : Read A} (code : ℕ) (a : A) (rest : List ℕ) → 0 < code → read ≡ fault code → Told read code a rest
-told_faulty code a rest h e = record { sound = λ z. absurd (omega arith); faulty = λ z. e }
-
-pub no_count :
-    {read : Read ℕ} (code f n high : ℕ) (rest : List ℕ) → (f ≡ code) × (n ≡ 0) → 0 < code → read ≡ fault code → Told read f n rest × (n ≤ high)
-no_count code f n high rest q h e = rw (q.0, q.1) (told_faulty code 0 rest h e, omega arith)
+pub found : {A E : Type 0} (o : Option A) (c : E) (x : A) → ok_or o c ≡ Ok x → o ≡ Some x
+found (Some y) c x e = cc
+found None c x e = absurd (let z : ◌≡◌ {A = ℕ} 0 1 = cc in omega arith)
 
 -- ---- the tests
-
-pub mask_zero : (nodes mask : ℕ) → mask ≡ 0 → false ≡ mask_sound nodes mask
-mask_zero nodes mask e = rw e
 
 pub mask_in : (nodes mask : ℕ) → (mask ≡ 0 → ⊥) → eqb (mask / 2 ^ nodes) 0 ≡ mask_sound nodes mask
 mask_in nodes mask h =
@@ -64,41 +60,41 @@ module _ (s : List ℕ) (i k : ℕ) where
   unfolding read_bytes
   bytes_there h = rw (le-leb k (length (drop i s)) (omega (arith, length-drop i s)), drop-drop k i s)
 
-  pub bytes_cut : 0 < k → length s < i + k → read_bytes k (drop i s) ≡ fault 32
+  pub bytes_cut : 0 < k → length s < i + k → read_bytes k (drop i s) ≡ fault Short
   unfolding read_bytes
   bytes_cut l h = rw (lt-leb k (length (drop i s)) (omega (arith, length-drop i s)))
 
 -- ---- a count
 
 module _ (s : List ℕ) (i k low high : ℕ) (pos : 0 < k) (few : k ≤ 4) where
-  pub count_cut : number_at s i k ≡ none → read_count k low high (drop i s) ≡ fault 32
+  pub count_cut : number_at s i k ≡ None → read_count k low high (drop i s) ≡ fault Short
   unfolding read_count
   count_cut e = rw (bytes_cut s i k pos (number_not s i k few e))
 
-  pub count_low : (x : ℕ) → number_at s i k ≡ some x → x < low → read_count k low high (drop i s) ≡ fault 33
+  pub count_low : (x : ℕ) → number_at s i k ≡ Some x → x < low → read_count k low high (drop i s) ≡ fault Count
   unfolding read_count
   count_low x e h = let q = number_there s i k x e in rw (bytes_there s i k q.1, ← q.0, lt-leb low x h)
 
-  pub count_high : (x : ℕ) → number_at s i k ≡ some x → high < x → low ≤ x → read_count k low high (drop i s) ≡ fault 33
+  pub count_high : (x : ℕ) → number_at s i k ≡ Some x → high < x → low ≤ x → read_count k low high (drop i s) ≡ fault Count
   unfolding read_count
   count_high x e h l = let q = number_there s i k x e in rw (bytes_there s i k q.1, ← q.0, le-leb low x l, lt-leb x high h)
 
-  pub count_in : (x : ℕ) → number_at s i k ≡ some x → low ≤ x → x ≤ high → read_count k low high (drop i s) ≡ got x (drop (i + k) s)
+  pub count_in : (x : ℕ) → number_at s i k ≡ Some x → low ≤ x → x ≤ high → read_count k low high (drop i s) ≡ got x (drop (i + k) s)
   unfolding read_count
   count_in x e l h = let q = number_there s i k x e in rw (bytes_there s i k q.1, ← q.0, le-leb low x l, le-leb x high h)
 
 -- ---- a counter, a cell and a step at a place
 
 module _ (s : List ℕ) (i : ℕ) where
-  pub counter_there : (x : ℕ) → number_at s i 4 ≡ some x → read_counter (drop i s) ≡ got x (drop 4 (drop i s))
+  pub counter_there : (x : ℕ) → number_at s i 4 ≡ Some x → read_counter (drop i s) ≡ got x (drop 4 (drop i s))
   unfolding read_counter
   counter_there x e = let q = number_there s i 4 x e in rw (bytes_there s i 4 q.1, q.0, drop-drop 4 i s)
 
-  pub counter_cut : number_at s i 4 ≡ none → read_counter (drop i s) ≡ fault 32
+  pub counter_cut : number_at s i 4 ≡ None → read_counter (drop i s) ≡ fault Short
   unfolding read_counter
   counter_cut e = rw (bytes_cut s i 4 (lit< tt) (number_not s i 4 (omega arith) e))
 
-  module _ (nodes v : ℕ) (e : number_at s (i + 1) 4 ≡ some v) where
+  module _ (nodes v : ℕ) (e : number_at s (i + 1) 4 ≡ Some v) where
     cell_whole : i + 5 ≤ length s
     cell_whole = omega (arith, number_there s (i + 1) 4 v e)
 
@@ -116,40 +112,40 @@ module _ (s : List ℕ) (i : ℕ) where
     unfolding read_cell
     cell_there t = rw (bytes_there s i 5 cell_whole, cell_mask, cell_value, t, drop-drop 5 i s)
 
-    pub cell_bad : mask_sound nodes (get_or s i 0) ≡ false → read_cell nodes (drop i s) ≡ fault 34
+    pub cell_bad : mask_sound nodes (get_or s i 0) ≡ false → read_cell nodes (drop i s) ≡ fault Mask
     unfolding read_cell
     cell_bad t = rw (bytes_there s i 5 cell_whole, cell_mask, t)
 
-  pub cell_cut : (nodes : ℕ) → number_at s (i + 1) 4 ≡ none → read_cell nodes (drop i s) ≡ fault 32
+  pub cell_cut : (nodes : ℕ) → number_at s (i + 1) 4 ≡ None → read_cell nodes (drop i s) ≡ fault Short
   unfolding read_cell
   cell_cut nodes e = rw (bytes_cut s i 5 (lit< tt) (omega (arith, number_not s (i + 1) 4 (omega arith) e)))
 
 module _ (part : List ℕ) (i : ℕ) where
-  step_taken : (x : Step) → step_at part i ≡ some x → (8 * i + 8 ≤ length part) × (x ≡ step_in part i)
+  step_taken : (x : Step) → step_at part i ≡ Some x → (8 * i + 8 ≤ length part) × (x ≡ step_in part i)
   step_taken x e =
       by_test (leb (8 * i + 8) (length part))
       (λ t. let l = leb-true (8 * i + 8) (length part) t in (l, cc (step_there part i l)))
-      (λ t. absurd (some-ne-none x (sym e ∙ sym (step_not part i (omega (arith, leb-false (8 * i + 8) (length part) t))))))
+      (λ t. absurd (none-some x (step_not part i (omega (arith, leb-false (8 * i + 8) (length part) t)) ∙ e)))
 
-  pub step_good : (x : Step) → step_at part i ≡ some x → fields_sound x ≡ true → read_step (drop (8 * i) part) ≡ got (step_in part i) (drop 8 (drop (8 * i) part))
+  pub step_good : (x : Step) → step_at part i ≡ Some x → fields_sound x ≡ true → read_step (drop (8 * i) part) ≡ got (step_in part i) (drop 8 (drop (8 * i) part))
   unfolding read_step
   step_good x e t =
       let q = step_taken x e in
       let u : fields_sound (step_in part i) ≡ true = ap fields_sound (sym q.1) ∙ t in
       rw (bytes_there part (8 * i) 8 q.0, u, drop-drop 8 (8 * i) part)
 
-  pub step_bad : (x : Step) → step_at part i ≡ some x → fields_sound x ≡ false → read_step (drop (8 * i) part) ≡ fault 35
+  pub step_bad : (x : Step) → step_at part i ≡ Some x → fields_sound x ≡ false → read_step (drop (8 * i) part) ≡ fault Field
   unfolding read_step
   step_bad x e t =
       let q = step_taken x e in
       let u : fields_sound (step_in part i) ≡ false = ap fields_sound (sym q.1) ∙ t in
       rw (bytes_there part (8 * i) 8 q.0, u)
 
-  pub step_cut : step_at part i ≡ none → read_step (drop (8 * i) part) ≡ fault 32
+  pub step_cut : step_at part i ≡ None → read_step (drop (8 * i) part) ≡ fault Short
   unfolding read_step
   step_cut e =
       by_test (leb (8 * i + 8) (length part))
-      (λ t. absurd (some-ne-none _ (sym (step_there part i (leb-true (8 * i + 8) (length part) t)) ∙ e)))
+      (λ t. absurd (none-some _ (sym e ∙ step_there part i (leb-true (8 * i + 8) (length part) t))))
       (λ t. rw (bytes_cut part (8 * i) 8 (lit< tt) (leb-false (8 * i + 8) (length part) t)))
 
 -- ---- items one after the other: what was read so far, and the rest
@@ -188,7 +184,7 @@ module _ {A : Type 0} (f : List ℕ → Read A) (w : ℕ) (s : List ℕ) (n : �
       let d : drop w (drop (w * i) s) ≡ drop (w * (i + 1)) s = drop-drop w (w * i) s ∙ ap (λ (k : ℕ). drop k s) (mul_next w i) in
       l ∙ rw (turn i h, e, d) (prepended_one xs a (read_items f (n - (i + 1)) (drop (w * (i + 1)) s)))
 
-  pub left_fault : (i : ℕ) (xs : List A) (c : ℕ) → i < n → f (drop (w * i) s) ≡ fault c → Left i xs → read_items f n s ≡ fault c
+  pub left_fault : (i : ℕ) (xs : List A) (c : Fault) → i < n → f (drop (w * i) s) ≡ fault c → Left i xs → read_items f n s ≡ fault c
   unfolding Left
   left_fault i xs c h e l = l ∙ rw (turn i h, e)
 

@@ -1,11 +1,8 @@
 -- The steps section as a part of the file's bytes, and a step of such a part.
 -- Assumes nothing.
-use Rattle.std.specs.Prelude.{◌≡◌, cond, List, [], ℕ, ◌+◌, ◌*◌, leb, length, take, drop}
-use Rattle.std.proofs.Math.Option.{Option, none, some}
+use Rattle.std.specs.Prelude.{◌≡◌, cond, List, [], ℕ, ◌+◌, ◌*◌, Option, None, Some, leb, length, take, drop}
 use Rattle.std.specs.Borrow.{Bor}
 use Rattle.kinds.specs.declared.Step.{Step}
-use Rattle.runfile.specs.declared.Taken.{Taken}
-use Rattle.runfile.specs.declared.Taken.TheVariants.{Step as StepIs, Nothing}
 use Rattle.runfile.specs.File.{step_from}
 
 -- where the steps start: past two counts of one byte, the counters, the cells and the count of steps
@@ -22,15 +19,10 @@ pub record StepsPart (file : Bor (List ℕ)) (nodes cells count : ℕ) (r : Bor 
       r.ref_ptr.1
       ≡ file.ref_ptr.1 + cond (leb (steps_start nodes cells + 8 * count) (length file.now)) (steps_start nodes cells) (length file.now)
 
--- what an answer stands for: a step, or none
-abbrev pub taken_of : Taken → Option Step
-taken_of (StepIs x) = some x
-taken_of Nothing = none
-
 -- the eight bytes of step i of a part
 abbrev pub step_in : List ℕ → ℕ → Step
 step_in part i = step_from (take 8 (drop (8 * i) part))
 
 -- step i of a part; none where it is not wholly there
 unfoldable pub step_at : List ℕ → ℕ → Option Step
-step_at part i = cond (leb (8 * (i + 1)) (length part)) (some (step_in part i)) none
+step_at part i = cond (leb (8 * (i + 1)) (length part)) (Some (step_in part i)) None

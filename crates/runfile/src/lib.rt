@@ -5,12 +5,32 @@
 mod read;
 
 ghost use Rattle.std.specs.Prelude.{◌≡◌};
-ghost use Rattle.runfile.specs.File.{fault, read_file};
+ghost use Rattle.runfile.specs.File.{code_of, read_file};
 ghost use Rattle.runfile.specs.Head.{opened_of};
-ghost use Rattle.runfile.specs.Parts.{StepsPart, taken_of, step_at};
+ghost use Rattle.runfile.specs.Parts.{steps_start, StepsPart, step_at};
 
 pub use crate::read::{fields_sound, mask_sound};
 use kinds::Step;
+
+// What a file or a run is refused for, under the paper's numbers: an item that is not wholly there, a count out of its range, a mask, a field
+// that its kind does not use, bytes left over, and an output too short to write to.
+#[derive(Clone, Copy, PartialEq, Eq, Debug)]
+pub enum Fault {
+    Short = 32,
+    Count = 33,
+    Mask = 34,
+    Field = 35,
+    LeftOver = 36,
+    Room = 37,
+}
+
+impl Fault {
+    pub fn code(self) -> u8
+        ensures { result ≡ code_of self }
+    {
+        self as u8
+    }
+}
 
 // A run without its steps: entries past the counts are 0.
 #[derive(Clone, Copy)]
@@ -23,70 +43,27 @@ pub struct Head {
     pub values: [u32; 32],
 }
 
-#[derive(Clone, Copy)]
-pub enum Verdict {
-    Sound,
-    Faulty(u8),
-}
-
-// An enum holds no array, so the two stand side by side: the head of a faulty file is all zeros.
-#[derive(Clone, Copy)]
-pub struct Opened {
-    pub verdict: Verdict,
-    pub head: Head,
-}
-
-fn refused(code: u8) -> Opened
-    ensures { result ≡ opened_of (fault code) }
-{
-    let verdict = Verdict::Faulty(code);
-    let head = read::no_head();
-    Opened { verdict, head }
-}
-
 // What any bytes of any length come to: the run that they are the file of, or their first fault by place. The steps are judged where they
 // stand and are not copied.
-#[tactic(auto, using(crate::proofs::Opening::end_laws))]
-pub fn open(file: &[u8]) -> Opened
+pub fn open(file: &[u8]) -> Result<Head, Fault>
     ensures { result ≡ opened_of (read_file file.now) }
 {
-    let front = read::front_of(file);
-    if 0 < front.fault {
-        return refused(front.fault);
-    }
-    let head = front.head;
-    let part = little::tail(file, 4 + 4 * wide(head.nodes) + 5 * wide(head.cells));
-    let count = wide16(head.steps);
-    let fault = read::steps_fault(part, count);
-    if 0 < fault {
-        return refused(fault);
-    }
+    let head = read::front_of(file)?;
+    let part = little::tail(file, steps_start(head.nodes, head.cells));
+    let count = usize::from(head.steps);
+    read::check_steps(part, count)?;
     if 8 * count < part.len() {
-        return refused(36);
+        return Err(Fault::LeftOver);
     }
-    Opened {
-        verdict: Verdict::Sound,
-        head,
-    }
+    Ok(head)
 }
 
 // ---- the steps section
-#[derive(Clone, Copy)]
-pub enum Taken {
-    Step(Step),
-    Nothing,
-}
 
-fn wide(b: u8) -> usize
-    ensures { result ≡ b }
+fn steps_start(nodes: u8, cells: u8) -> usize
+    ensures { result ≡ steps_start nodes cells }
 {
-    b as usize
-}
-
-fn wide16(x: u16) -> usize
-    ensures { result ≡ x }
-{
-    x as usize
+    4 + 4 * usize::from(nodes) + 5 * usize::from(cells)
 }
 
 // The steps section of a file with these counts: that very part of the caller's bytes, or the empty part at their end where there is no
@@ -94,8 +71,8 @@ fn wide16(x: u16) -> usize
 pub fn steps(file: &[u8], nodes: u8, cells: u8, count: u16) -> &[u8]
     ensures { StepsPart file.entry nodes cells count result }
 {
-    let start = 4 + 4 * wide(nodes) + 5 * wide(cells);
-    let end = start + 8 * wide16(count);
+    let start = steps_start(nodes, cells);
+    let end = start + 8 * usize::from(count);
     if end <= file.len() {
         &file[start..end]
     } else {
@@ -103,24 +80,20 @@ pub fn steps(file: &[u8], nodes: u8, cells: u8, count: u16) -> &[u8]
     }
 }
 
-// Step i of a steps section, or nothing where it is not wholly there.
-pub fn step_at(part: &[u8], i: usize) -> Taken
-    ensures { taken_of result ≡ step_at part.now i }
+// Step i of a steps section, or none where it is not wholly there.
+pub fn step_at(part: &[u8], i: usize) -> Option<Step>
+    ensures { result ≡ step_at part.now i }
 {
     if part.len() / 8 <= i {
-        return Taken::Nothing;
+        return None;
     }
-    // its last four bytes are there then, so the other way out is never taken
     let at = 8 * i;
-    let little::Number::Is(value) = little::read(part, at + 4, 4) else {
-        return Taken::Nothing;
-    };
-    let x = Step {
+    let value = little::read(part, at + 4, 4)?;
+    Some(Step {
         kind: part[at],
         slot: part[at + 1],
         node: part[at + 2],
         cell: part[at + 3],
         value,
-    };
-    Taken::Step(x)
+    })
 }

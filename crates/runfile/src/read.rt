@@ -1,54 +1,20 @@
-// The sections of a file, each read from front to back. A fault of 0 is none.
-ghost use Rattle.std.specs.Prelude.{◌≡◌, ◌+◌, ◌*◌, ◌≤◌, ◌<◌, drop};
+// The sections of a file, each read from front to back.
+ghost use Rattle.std.specs.Prelude.{◌≡◌, ◌+◌, ◌*◌, ◌≤◌, ◌<◌, drop, IfOk};
 ghost use Rattle.tables.specs.Table.{at};
-ghost use Rattle.runfile.specs.File.{mask_sound, fields_sound, read_count, read_counter, read_cell, read_step, read_items};
-ghost use Rattle.runfile.specs.Head.{Told, FrontTold, empty_head, head_with, firsts, padded, cell_in};
+ghost use Rattle.runfile.specs.File.{mask_sound, fields_sound, read_count, read_counter, read_cell, read_step, read_items, read_file};
+ghost use Rattle.runfile.specs.Head.{read_as, by_front, Padded, firsts, padded, cell_in};
 ghost use Rattle.runfile.specs.Parts.{step_in};
 
-use crate::{Head, Taken};
+use crate::{Fault, Head};
 use kinds::Step;
-use little::Number;
-
-#[derive(Clone, Copy)]
-pub(crate) struct Count {
-    pub(crate) fault: u8,
-    pub(crate) count: u32,
-}
-
-#[derive(Clone, Copy)]
-pub(crate) struct Counters {
-    pub(crate) fault: u8,
-    pub(crate) counters: [u32; 8],
-}
-
-#[derive(Clone, Copy)]
-pub(crate) struct Cells {
-    pub(crate) fault: u8,
-    pub(crate) masks: [u8; 32],
-    pub(crate) values: [u32; 32],
-}
-
-#[derive(Clone, Copy)]
-pub(crate) struct Front {
-    pub(crate) fault: u8,
-    pub(crate) head: Head,
-}
-
-fn wide(b: u8) -> u32
-    ensures { result ≡ b }
-{
-    b as u32
-}
 
 // A mask is not zero and names only nodes of the run.
+#[tactic(auto, using(crate::proofs::Reading::mask_in))]
 pub fn mask_sound(nodes: u8, mask: u8) -> bool
     requires { nodes ≤ 8 }
     ensures { result ≡ mask_sound nodes mask }
 {
-    if mask == 0 {
-        return false;
-    }
-    wide(mask) >> nodes == 0
+    mask != 0 && u32::from(mask) >> nodes == 0
 }
 
 // A field that the kind doesn't use is zero.
@@ -62,170 +28,88 @@ pub fn fields_sound(x: Step) -> bool
         & (u.value | (x.value == 0))
 }
 
-fn no_count(fault: u8) -> Count
-    ensures { (result.fault ≡ fault) × (result.count ≡ 0) }
-{
-    Count { fault, count: 0 }
-}
-
 // The count of k bytes at a place, which is to lie from low to high.
-pub(crate) fn count_at(file: &[u8], at: usize, k: usize, low: u32, high: u32) -> Count
+fn count_at(file: &[u8], at: usize, k: usize, low: u32, high: u32) -> Result<u32, Fault>
     requires { (0 < k) × (k ≤ 4) }
-    ensures { Told (read_count k low high (drop at file.now)) result.fault result.count (drop (at + k) file.now)
-        × (result.count ≤ high) }
+    ensures read { read_count k low high (drop at file.now) ≡ read_as result (λ x. x) (drop (at + k) file.now) }
+    ensures most { IfOk result (λ x. x ≤ high) }
 {
-    let Number::Is(count) = little::read(file, at, k) else {
-        return no_count(32);
-    };
-    if count < low {
-        return no_count(33);
+    let count = little::read(file, at, k).ok_or(Fault::Short)?;
+    if count < low || high < count {
+        return Err(Fault::Count);
     }
-    if high < count {
-        return no_count(33);
-    }
-    Count { fault: 0, count }
+    Ok(count)
 }
 
 // The counters of n nodes, which stand past the count of nodes.
-pub(crate) fn counters_in(file: &[u8], n: usize) -> Counters
+fn counters_in(file: &[u8], n: usize) -> Result<[u32; 8], Fault>
     requires { n ≤ 8 }
-    ensures { Told (read_items read_counter n (drop 1 file.now)) result.fault (firsts n (λ i. at result.counters i 0))
-        (drop (4 * n) (drop 1 file.now))
-        × (padded 8 (firsts n (λ i. at result.counters i 0)) ≡ result.counters) }
+    ensures read { read_items read_counter n (drop 1 file.now)
+        ≡ read_as result (λ l. firsts n (λ i. at l i 0)) (drop (4 * n) (drop 1 file.now)) }
+    ensures padded { IfOk result (λ l. padded 8 (firsts n (λ i. at l i 0)) ≡ l) }
 {
     let mut counters = [0u32; 8];
-    let mut i: usize = 0;
-    while i < n {
-        let Number::Is(x) = little::read(file, 1 + 4 * i, 4) else {
-            return Counters {
-                fault: 32,
-                counters,
-            };
-        };
-        counters[i] = x;
-        i = i + 1;
+    for i in 0..n {
+        counters[i] = little::read(file, 1 + 4 * i, 4).ok_or(Fault::Short)?;
     }
-    Counters { fault: 0, counters }
+    Ok(counters)
 }
 
-// The n cells at a place, whose masks are judged by the number of nodes.
-pub(crate) fn cells_in(file: &[u8], start: usize, nodes: u8, n: usize) -> Cells
+// The masks and the values of the n cells at a place. A mask is judged by the number of nodes.
+fn cells_in(file: &[u8], start: usize, nodes: u8, n: usize) -> Result<([u8; 32], [u32; 32]), Fault>
     requires { (start ≤ 64) × (nodes ≤ 8) × (n ≤ 32) }
-    ensures { Told (read_items (read_cell nodes) n (drop start file.now)) result.fault (firsts n (cell_in result.masks result.values))
-        (drop (5 * n) (drop start file.now))
-        × (padded 32 (firsts n (λ i. at result.masks i 0)) ≡ result.masks) × (padded 32 (firsts n (λ i. at result.values i 0)) ≡ result.values) }
+    ensures read { read_items (read_cell nodes) n (drop start file.now)
+        ≡ read_as result (λ t. firsts n (cell_in t.0 t.1)) (drop (5 * n) (drop start file.now)) }
+    ensures masks { IfOk result (λ t. padded 32 (firsts n (λ i. at t.0 i 0)) ≡ t.0) }
+    ensures values { IfOk result (λ t. padded 32 (firsts n (λ i. at t.1 i 0)) ≡ t.1) }
 {
     let mut masks = [0u8; 32];
     let mut values = [0u32; 32];
-    let mut i: usize = 0;
-    while i < n {
-        let Number::Is(value) = little::read(file, start + 5 * i + 1, 4) else {
-            return Cells {
-                fault: 32,
-                masks,
-                values,
-            };
-        };
-        let mask = file[start + 5 * i];
-        if mask_sound(nodes, mask) {
-            masks[i] = mask;
-            values[i] = value;
-            i = i + 1;
-        } else {
-            return Cells {
-                fault: 34,
-                masks,
-                values,
-            };
+    for i in 0..n {
+        let at = start + 5 * i;
+        let value = little::read(file, at + 1, 4).ok_or(Fault::Short)?;
+        let mask = file[at];
+        if !mask_sound(nodes, mask) {
+            return Err(Fault::Mask);
         }
+        masks[i] = mask;
+        values[i] = value;
     }
-    Cells {
-        fault: 0,
-        masks,
-        values,
-    }
+    Ok((masks, values))
 }
 
-// The code of the first fault among n steps; 0 for none.
-pub(crate) fn steps_fault(part: &[u8], n: usize) -> u8
+// The first fault among n steps.
+pub(crate) fn check_steps(part: &[u8], n: usize) -> Result<(), Fault>
     requires { n ≤ 4096 }
-    ensures { Told (read_items read_step n part.now) result (firsts n (step_in part.now)) (drop (8 * n) part.now) }
+    ensures { read_items read_step n part.now ≡ read_as result (λ u. firsts n (step_in part.now)) (drop (8 * n) part.now) }
 {
-    let mut i: usize = 0;
-    while i < n {
-        let Taken::Step(x) = crate::step_at(part, i) else {
-            return 32;
-        };
+    for i in 0..n {
+        let x = crate::step_at(part, i).ok_or(Fault::Short)?;
         if !fields_sound(x) {
-            return 35;
+            return Err(Fault::Field);
         }
-        i = i + 1;
     }
-    0
-}
-
-pub(crate) fn no_head() -> Head
-    ensures { result ≡ empty_head }
-{
-    Head {
-        nodes: 0,
-        cells: 0,
-        steps: 0,
-        counters: [0u32; 8],
-        masks: [0u8; 32],
-        values: [0u32; 32],
-    }
-}
-
-fn no_front(fault: u8) -> Front
-    ensures { (result.fault ≡ fault) × (result.head ≡ empty_head) }
-{
-    let head = no_head();
-    Front { fault, head }
-}
-
-fn whole_front(nodes: u8, cells: u8, steps: u16, row: Counters, table: Cells) -> Front
-    ensures { (result.fault ≡ 0) × (result.head ≡ head_with nodes cells steps row.counters table.masks table.values) }
-{
-    let counters = row.counters;
-    let masks = table.masks;
-    let values = table.values;
-    let head = Head {
-        nodes,
-        cells,
-        steps,
-        counters,
-        masks,
-        values,
-    };
-    Front { fault: 0, head }
+    Ok(())
 }
 
 // All that stands before the steps, and their count.
-pub(crate) fn front_of(file: &[u8]) -> Front
-    ensures { FrontTold file.now result.fault result.head }
+pub(crate) fn front_of(file: &[u8]) -> Result<Head, Fault>
+    ensures read { read_file file.now ≡ by_front file.now result }
+    ensures padded { IfOk result Padded }
 {
-    let nodes = count_at(file, 0, 1, 1, 8);
-    if 0 < nodes.fault {
-        return no_front(nodes.fault);
-    }
-    let n = nodes.count;
-    let row = counters_in(file, n as usize);
-    if 0 < row.fault {
-        return no_front(row.fault);
-    }
-    let cells = count_at(file, 1 + 4 * (n as usize), 1, 1, 32);
-    if 0 < cells.fault {
-        return no_front(cells.fault);
-    }
-    let c = cells.count;
-    let table = cells_in(file, 2 + 4 * (n as usize), n as u8, c as usize);
-    if 0 < table.fault {
-        return no_front(table.fault);
-    }
-    let steps = count_at(file, 2 + 4 * (n as usize) + 5 * (c as usize), 2, 0, 4096);
-    if 0 < steps.fault {
-        return no_front(steps.fault);
-    }
-    whole_front(n as u8, c as u8, steps.count as u16, row, table)
+    let nodes = count_at(file, 0, 1, 1, 8)?;
+    let n = nodes as usize;
+    let counters = counters_in(file, n)?;
+    let cells = count_at(file, 1 + 4 * n, 1, 1, 32)?;
+    let c = cells as usize;
+    let (masks, values) = cells_in(file, 2 + 4 * n, nodes as u8, c)?;
+    let steps = count_at(file, 2 + 4 * n + 5 * c, 2, 0, 4096)?;
+    Ok(Head {
+        nodes: nodes as u8,
+        cells: cells as u8,
+        steps: steps as u16,
+        counters,
+        masks,
+        values,
+    })
 }

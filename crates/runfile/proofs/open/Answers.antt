@@ -1,20 +1,22 @@
 -- `runfile::open` meets its contract: each way out is a law, from how the sections before it were read.
 -- Assumes nothing.
 use native.Mathlib.Omega.{arith}
-use Rattle.runfile.proofs.Opening.{opened_faulty, open_steps, open_sound}
+use Rattle.runfile.proofs.Opening.{opened_faulty, open_steps, open_over, open_sound}
 use Rattle.runfile.proofs.open.Goals as goal
 
-pub returns-then-front-gt0 : goal.returns-then-front-gt0
-returns-then-front-gt0 c = opened_faulty _ _ _ c.refused.ensures (c.front_of-front.ensures.faulty c.if-front-gt0.true)
+pub returns-in_err-head : goal.returns-in_err-head
+returns-in_err-head c = grind (arith, opened_faulty)
 
-pub returns-then-fault-gt0 : goal.returns-then-fault-gt0
-returns-then-fault-gt0 c =
-    let f = c.front_of-front.ensures in
-    opened_faulty _ _ _ c.refused-then-fault-gt0.ensures (open_steps _ _ _ f c.if-front-gt0.false _ _ _ _ c.wide.ensures c.wide-2.ensures
-    c.wide16-count.ensures c.tail-part.ensures.bytes _ c.steps_fault-fault.ensures c.if-fault-gt0.true)
+pub returns-in_err-check_steps : goal.returns-in_err-check_steps
+returns-in_err-check_steps c =
+    grind (arith, opened_faulty, open_steps _ _ c.in_ok-head.ensures.read _ _ _ c.steps_start.ensures c.from-count.ensures c.tail-part.ensures.bytes)
+
+pub returns-then-count-part : goal.returns-then-count-part
+returns-then-count-part c =
+    open_over _ _ c.in_ok-head.ensures.read _ _ _ c.steps_start.ensures c.from-count.ensures c.tail-part.ensures.bytes
+    c.in_ok-check_steps.ensures c.if-count-part.true
 
 pub returns : goal.returns
 returns c =
-    let f = c.front_of-front.ensures in
-    open_sound _ _ _ f c.if-front-gt0.false _ _ _ _ c.wide.ensures c.wide-2.ensures
-    c.wide16-count.ensures c.tail-part.ensures.bytes _ c.steps_fault-fault.ensures c.if-fault-gt0.false (omega arith)
+    open_sound _ _ c.in_ok-head.ensures.read _ _ _ c.steps_start.ensures c.from-count.ensures c.tail-part.ensures.bytes
+    c.in_ok-check_steps.ensures c.in_ok-head.ensures.padded c.if-count-part.false

@@ -8,11 +8,8 @@ use Rattle.runfile.proofs.step_at.Goals as goal
 pub returns-then-part-i : goal.returns-then-part-i
 returns-then-part-i c = step_not _ _ c.if-part-i.true
 
-pub returns-in_default : goal.returns-in_default
-returns-in_default c =
-    let l = number_not _ _ 4 (omega arith) (sym c.in_default.ensures) in absurd (omega arith)
+pub returns-in_err-value : goal.returns-in_err-value
+returns-in_err-value c = let l = number_not _ _ 4 (omega arith) (sym c.in_err-value.ensures) in absurd (omega arith)
 
 pub returns : goal.returns
-returns c =
-    let e = sym c.in-Is.ensures in
-    step_in_lem _ _ _ (omega arith) (number_there _ _ _ _ e).0
+returns c = step_in_lem _ _ _ (omega arith) (number_there _ _ _ _ (sym c.in_ok-value.ensures)).0

@@ -1,30 +1,21 @@
 -- `runfile::read::count_at` meets its contract: each way out is a law.
 -- Assumes nothing.
-use mathlib.Core.Path.{sym}
+use mathlib.Core.Path.{sym, ◌∙◌}
 use native.Mathlib.Omega.{arith}
-use Rattle.runfile.proofs.Reading.{told_sound, no_count, count_cut, count_low, count_high, count_in}
+use Rattle.runfile.proofs.Reading.{found, count_cut, count_low, count_high, count_in}
 use Rattle.runfile.proofs.read.count_at.Goals as goal
 
-pub returns-in_default : goal.returns-in_default
-returns-in_default c =
-    let p = c.requires in
-    let e = sym c.in_default.ensures in
-    no_count _ _ _ _ _ c.no_count.ensures (omega arith) (count_cut _ _ _ _ _ p.0 p.1 e)
+pub returns-in_err-count-clause-read : goal.returns-in_err-count-clause-read
+returns-in_err-count-clause-read c = grind (arith, count_cut)
 
-pub returns-then-count-low : goal.returns-then-count-low
-returns-then-count-low c =
-    let p = c.requires in
-    let e = sym c.in-Is.ensures in
-    no_count _ _ _ _ _ c.no_count-then-count-low.ensures (omega arith) (count_low _ _ _ _ _ p.0 p.1 _ e c.if-count-low.true)
+pub returns-then-count-low-clause-read : goal.returns-then-count-low-clause-read
+returns-then-count-low-clause-read c =
+    let a = c.args in
+    let x = c.in_ok-count.count in
+    let e = sym c.read.ensures ∙ found _ _ x (sym c.in_ok-count.ensures.value) in
+    grind (arith, count_low a.file.now a.at a.k a.low a.high c.requires.0 c.requires.1 x e, count_high a.file.now a.at a.k a.low a.high c.requires.0 c.requires.1 x e)
 
-pub returns-then-high-count : goal.returns-then-high-count
-returns-then-high-count c =
-    let p = c.requires in
-    let e = sym c.in-Is.ensures in
-    no_count _ _ _ _ _ c.no_count-then-high-count.ensures (omega arith) (count_high _ _ _ _ _ p.0 p.1 _ e c.if-high-count.true c.if-count-low.false)
-
-pub returns : goal.returns
-returns c =
-    let p = c.requires in
-    let e = sym c.in-Is.ensures in
-    (told_sound (count_in _ _ _ _ _ p.0 p.1 _ e c.if-count-low.false c.if-high-count.false), c.if-high-count.false)
+pub returns-clause-read : goal.returns-clause-read
+returns-clause-read c =
+    let e = sym c.read.ensures ∙ found _ _ _ (sym c.in_ok-count.ensures.value) in
+    count_in _ _ _ _ _ c.requires.0 c.requires.1 _ e c.if-count-low.false c.if-high-count.false
