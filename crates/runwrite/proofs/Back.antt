@@ -1,10 +1,9 @@
--- There and back between a run, its head and numbers, and its file: what is opened can be written again, and what is written is opened.
+-- There and back between a run, its head and steps, and its file: what is opened can be written again, and what is written is opened.
 -- Assumes nothing.
-use mathlib.Core.Path.{◌≡◌, refl, sym, ap, ap₂, ◌∙◌}
+use mathlib.Core.Path.{◌≡◌, refl, sym, ap, ◌∙◌}
 use mathlib.Core.List.{List, [], ◌∷◌, ◌++◌, map}
-use mathlib.Core.Option.{none}
+use Rattle.std.specs.Prelude.{None}
 use Prim.Native.Nat.{ℕ, zero, suc, ◌-◌, ◌^◌, ◌<◌}
-use native.Mathlib.Omega.{arith}
 use lib.ListN.{length, replicate, length-map, get_or-append, get_or-map}
 use Rattle.tables.specs.Table.{at}
 use Rattle.tables.proofs.Table.{same_table}
@@ -12,14 +11,13 @@ use Rattle.kinds.specs.declared.Step.{Step}
 use Rattle.runfile.specs.declared.Head.{Head}
 use Rattle.runfile.specs.File.{Cell, File, got, fault_of, bytes_of, read_file}
 use Rattle.runfile.specs.Head.{padded, firsts, cell_in, head_of}
-use Rattle.runwrite.specs.Writing.{word_of, step_of, file_of}
+use Rattle.runwrite.specs.Writing.{file_of}
 use Rattle.runfile.proofs.Items.{All}
 use Rattle.runfile.proofs.BothWays.{Sound, read_written}
 use Rattle.runfile.proofs.FileItems.{StepFits}
 use Rattle.runfile.proofs.Rows.{firsts_size, at_firsts}
-use Rattle.runwrite.proofs.Judging.{step_word}
 
--- ---- from a run to its head and numbers, and back
+-- ---- from a run to its head and back
 
 at_padded : (k : ℕ) (xs : List ℕ) (i : ℕ) → i < length xs → at (padded k xs) i 0 ≡ at xs i 0
 unfolding padded at
@@ -51,14 +49,10 @@ cells_back k cs =
     at_firsts (length cs) g i no_cell l
     ∙ rw (at_mapped k (λ (c : Cell). c.mask) cs i refl l, at_mapped k (λ (c : Cell). c.value) cs i refl l))
 
-steps_back : (xs : List Step) → All StepFits xs → map step_of (map word_of xs) ≡ xs
-steps_back [] p = refl
-steps_back (x ∷ xs) p = ap₂ ◌∷◌ (step_word x p.0) (steps_back xs p.1)
-
--- every sound run is written from its head and its steps' numbers
-pub file_back : (f : File) → Sound f → file_of (head_of f) (map word_of f.steps) ≡ f
+-- every sound run is written from its head and its steps
+pub file_back : (f : File) → file_of (head_of f) f.steps ≡ f
 unfolding file_of head_of
-file_back f s = rw (counters_back 8 f.counters, cells_back 32 f.cells, steps_back f.steps s.steps_fit)
+file_back f = rw (counters_back 8 f.counters, cells_back 32 f.cells)
 
 -- ---- what is written is sound, where the head's numbers and the steps' are those of their types
 
@@ -71,24 +65,17 @@ unfolding firsts
 all_firsts P zero g h = tt
 all_firsts P (suc k) g h = all_append P (firsts k g) (g k ∷ []) (all_firsts P k g h) (h k, tt)
 
-word_fits : (w : ℕ) → w < 2 ^ 64 → StepFits (step_of w)
-word_fits w h = (omega arith, omega arith, omega arith, omega arith, omega arith)
-
-all_words : (words : List ℕ) → All (λ (w : ℕ). w < 2 ^ 64) words → All StepFits (map step_of words)
-all_words [] p = tt
-all_words (w ∷ words) p = (word_fits w p.0, all_words words p.1)
-
 module _
-    (h : Head) (words : List ℕ) (low_counters : (i : ℕ) → at h.counters i 0 < 2 ^ 32) (low_values : (i : ℕ) → at h.values i 0 < 2 ^ 32)
-    (low_words : All (λ (w : ℕ). w < 2 ^ 64) words) (e : fault_of (file_of h words) ≡ none) where
-  pub file_sound : Sound (file_of h words)
+    (h : Head) (steps : List Step) (low_counters : (i : ℕ) → at h.counters i 0 < 2 ^ 32) (low_values : (i : ℕ) → at h.values i 0 < 2 ^ 32)
+    (low_steps : All StepFits steps) (e : fault_of (file_of h steps) ≡ None) where
+  pub file_sound : Sound (file_of h steps)
   unfolding file_of
   file_sound = record {
     no_fault = e;
     counters_fit = all_firsts (λ (x : ℕ). x < 256 ^ 4) h.nodes (λ i. at h.counters i 0) low_counters;
     values_fit = all_firsts (λ (c : Cell). c.value < 256 ^ 4) h.cells (cell_in h.masks h.values) low_values;
-    steps_fit = all_words words low_words;
+    steps_fit = low_steps;
   }
 
-  pub file_read_back : read_file (bytes_of (file_of h words)) ≡ got (file_of h words) []
-  file_read_back = read_written (file_of h words) file_sound
+  pub file_read_back : read_file (bytes_of (file_of h steps)) ≡ got (file_of h steps) []
+  file_read_back = read_written (file_of h steps) file_sound

@@ -1,30 +1,32 @@
--- Laws of writing: a run that is judged by loops over its tables, and its bytes stored section by section.
+-- Laws of writing: a run's bytes, stored section by section.
 -- Assumes nothing.
 use mathlib.Core.Path.{◌≡◌, refl, sym, ap, ap₂, ◌∙◌}
 use mathlib.Core.List.{List, [], ◌∷◌, ◌++◌, append_assoc, append-nil}
-use mathlib.Core.Option.{none, some}
-use Prim.Native.Nat.{ℕ, suc, ◌+◌, ◌*◌, ◌/◌, ◌%◌, ◌≤◌, ◌<◌}
+use Rattle.std.specs.Prelude.{None, Some, Ok, Err}
+use Prim.Native.Nat.{ℕ, suc, ◌+◌, ◌*◌, ◌≤◌, ◌<◌}
 use native.Mathlib.Nat.{add-zero, zero-add}
 use native.Mathlib.Numerals.{add-one}
 use native.Mathlib.Omega.{arith}
-use lib.ListN.{length, set, length-set, length-map}
-use lib.Seq.{sets, sets-eq, length-sets}
+use lib.ListN.{length, set, length-set}
+use lib.Seq.{sets, sets-eq}
 use borrow.Author.Tests.{le-leb, lt-leb}
 use Rattle.tables.specs.Table.{at}
-use Rattle.tables.specs.Pair.{word}
+use Rattle.kinds.specs.declared.Step.{Step}
 use Rattle.little.specs.Little.{digits, stored}
 use Rattle.little.proofs.Laws.{fits_in, stored_in, digits_size}
 use Rattle.runfile.specs.declared.Head.{Head}
 use Rattle.runfile.specs.File.{File, fault_of, bytes_of, joined, cell_bytes, step_bytes}
 use Rattle.runfile.specs.Parts.{steps_start}
 use Rattle.runfile.specs.Head.{firsts, cell_in}
-use Rattle.runwrite.specs.Writing.{step_of, file_of, Judged, Written, written}
+use Rattle.runfile.specs.declared.Fault.{Fault}
+use Rattle.runfile.specs.declared.Fault.TheVariants.{Room}
+use Rattle.runwrite.specs.Writing.{file_of, written}
 use Rattle.runfile.proofs.Items.{Item, joined_append, joined_size}
 use Rattle.runfile.proofs.BothWays.{passes_when}
 use Rattle.runfile.proofs.FileItems.{counter_item, cell_item}
 use Rattle.runfile.proofs.Parts.{file_size}
 use Rattle.runfile.proofs.Rows.{firsts_next, firsts_size}
-use Rattle.runwrite.proofs.Judging.{word_bytes, map_firsts, counters_size, cells_size, steps_size}
+use Rattle.runwrite.proofs.Judging.{counters_size, cells_size, steps_are}
 
 -- ---- stored one after the other
 
@@ -45,21 +47,14 @@ module _ {A : Type 0} (I : Item A) (out : List ℕ) (start : ℕ) (g : ℕ → A
   unfolding firsts joined
   put_none = refl
 
-  pub put_size : (i : ℕ) (o : List ℕ) → Put i o → length o ≡ length out
-  put_size i o e = ap length e ∙ length-sets out start (joined I.bytes (firsts i g))
-
-  pub put_next : (i : ℕ) (o : List ℕ) → Put i o → Put (i + 1) (sets o (start + I.width * i) (I.bytes (g i)))
+  pub put_next : (i : ℕ) (o o' : List ℕ) → Put i o → o' ≡ sets o (start + I.width * i) (I.bytes (g i)) → Put (i + 1) o'
   unfolding joined
-  put_next i o e =
+  put_next i o o' e w =
       let j = joined I.bytes (firsts i g) in
       let s : length j ≡ I.width * i = joined_size I (firsts i g) ∙ ap (λ (k : ℕ). I.width * k) (firsts_size i g) in
       let q : joined I.bytes (firsts (i + 1) g) ≡ j ++ I.bytes (g i) =
       ap (joined I.bytes) (firsts_next i g) ∙ joined_append I.bytes (firsts i g) (g i ∷ []) ∙ ap (◌++◌ j) (append-nil (I.bytes (g i))) in
-      rw (q, sets_append j out start (I.bytes (g i)), s, e)
-
-  pub put_turn :
-      (i : ℕ) (o o' : List ℕ) → Put i o → o' ≡ sets o (start + I.width * i) (I.bytes (g i)) → (length o' ≡ length out) × Put (i + 1) o'
-  put_turn i o o' e q = let r = q ∙ put_next i o e in (put_size (i + 1) o' r, r)
+      w ∙ rw (q, sets_append j out start (I.bytes (g i)), s, e)
 
   pub put_end : (i n : ℕ) (o : List ℕ) → i ≤ n → n ≤ i → Put i o → Put n o
   put_end i n o h l e = let q : i ≡ n = omega arith in rw q at e
@@ -74,17 +69,19 @@ cell_stored o p m v h =
     put_number (set o p m) (p + 1) 4 v (omega arith) (omega (arith, length-set o p m)) ∙ ap (λ (k : ℕ). sets (set o p m) k (digits 4 v)) (add-one p)
 
 pub step_stored :
-    (o : List ℕ) (p w : ℕ) → p + 8 ≤ length o → stored (stored o p 4 (w % word)) (p + 4) 4 (w / word) ≡ sets o p (step_bytes (step_of w))
-step_stored o p w h =
-    let a = digits 4 (w % word) in
-    let e : stored o p 4 (w % word) ≡ sets o p a = put_number o p 4 (w % word) (omega arith) (omega arith) in
-    rw (
-      e,
-      put_number (sets o p a) (p + 4) 4 (w / word) (omega arith) (omega (arith, length-sets o p a)),
-      word_bytes w,
-      sets_append a o p (digits 4 (w / word)),
-      digits_size 4 (w % word),
-    )
+    (o : List ℕ) (p : ℕ) (x : Step) → p + 8 ≤ length o
+    → stored (set (set (set (set o p x.kind) (p + 1) x.slot) (p + 2) x.node) (p + 3) x.cell) (p + 4) 4 x.value ≡ sets o p (step_bytes x)
+step_stored o p x h =
+    let o₁ = set o p x.kind in
+    let o₂ = set o₁ (p + 1) x.slot in
+    let o₃ = set o₂ (p + 2) x.node in
+    let o₄ = set o₃ (p + 3) x.cell in
+    let l : length o₄ ≡ length o = length-set o₃ (p + 3) x.cell ∙ length-set o₂ (p + 2) x.node ∙ length-set o₁ (p + 1) x.slot ∙ length-set o p x.kind in
+    let e₁ : p + 1 ≡ suc p = omega arith in
+    let e₂ : p + 2 ≡ suc (suc p) = omega arith in
+    let e₃ : p + 3 ≡ suc (suc (suc p)) = omega arith in
+    let e₄ : p + 4 ≡ suc (suc (suc (suc p))) = omega arith in
+    put_number o₄ (p + 4) 4 x.value (omega arith) (omega arith) ∙ rw (e₁, e₂, e₃, e₄) refl
 
 -- ---- a count and what it counts
 
@@ -99,7 +96,7 @@ tail_stored o o₁ o₂ p m s h e₁ e₂ =
 regroup : (a b d s : List ℕ) → a ++ b ++ d ++ s ≡ a ++ (b ++ (d ++ s))
 regroup a b d s = append_assoc (a ++ b) d s ∙ append_assoc a b (d ++ s)
 
-module _ (h : Head) (words : List ℕ) where
+module _ (h : Head) (steps : List Step) where
   -- the three sections
   abbrev pub nodes_bytes : List ℕ
   nodes_bytes = h.nodes ∷ joined (digits 4) (firsts h.nodes (λ i. at h.counters i 0))
@@ -108,17 +105,13 @@ module _ (h : Head) (words : List ℕ) where
   table_bytes = h.cells ∷ joined cell_bytes (firsts h.cells (cell_in h.masks h.values))
 
   abbrev pub tail_bytes : List ℕ
-  tail_bytes = digits 2 (length words) ++ joined step_bytes (firsts (length words) (λ i. step_of (at words i 0)))
+  tail_bytes = digits 2 (length steps) ++ joined step_bytes steps
 
-  bytes_by_section : bytes_of (file_of h words) ≡ nodes_bytes ++ (table_bytes ++ tail_bytes)
+  bytes_by_section : bytes_of (file_of h steps) ≡ nodes_bytes ++ (table_bytes ++ tail_bytes)
   unfolding bytes_of file_of
   bytes_by_section =
-      rw (
-        firsts_size h.nodes (λ i. at h.counters i 0),
-        firsts_size h.cells (cell_in h.masks h.values),
-        length-map words step_of,
-        map_firsts step_of words,
-      ) (regroup nodes_bytes table_bytes (digits 2 (length words)) (joined step_bytes (firsts (length words) (λ i. step_of (at words i 0)))))
+      rw (firsts_size h.nodes (λ i. at h.counters i 0), firsts_size h.cells (cell_in h.masks h.values))
+      (regroup nodes_bytes table_bytes (digits 2 (length steps)) (joined step_bytes steps))
 
   nodes_width : length nodes_bytes ≡ 1 + 4 * h.nodes
   nodes_width = omega (arith, joined_size counter_item (firsts h.nodes (λ i. at h.counters i 0)), firsts_size h.nodes (λ i. at h.counters i 0))
@@ -128,65 +121,39 @@ module _ (h : Head) (words : List ℕ) where
       omega (arith, joined_size (cell_item 0) (firsts h.cells (cell_in h.masks h.values)), firsts_size h.cells (cell_in h.masks h.values))
 
   pub filled :
-      (o₀ o₁ o₂ o₃ : List ℕ) → o₁ ≡ sets o₀ 0 nodes_bytes → o₂ ≡ sets o₁ (1 + 4 * h.nodes) table_bytes
-      → o₃ ≡ sets o₂ (2 + 4 * h.nodes + 5 * h.cells) tail_bytes → o₃ ≡ sets o₀ 0 (bytes_of (file_of h words))
-  filled o₀ o₁ o₂ o₃ e₁ e₂ e₃ =
-      let p₁ : 0 + length nodes_bytes ≡ 1 + 4 * h.nodes = omega (arith, nodes_width) in
-      let p₂ : 1 + 4 * h.nodes + length table_bytes ≡ 2 + 4 * h.nodes + 5 * h.cells = omega (arith, table_width) in
+      (o₀ o₁ o₂ o₃ : List ℕ) (n c : ℕ) → n ≡ h.nodes → c ≡ h.cells → o₁ ≡ sets o₀ 0 nodes_bytes → o₂ ≡ sets o₁ (1 + 4 * n) table_bytes
+      → o₃ ≡ sets o₂ (2 + 4 * n + 5 * c) tail_bytes → o₃ ≡ sets o₀ 0 (bytes_of (file_of h steps))
+  filled o₀ o₁ o₂ o₃ n c en ec e₁ e₂ e₃ =
+      let p₁ : 0 + length nodes_bytes ≡ 1 + 4 * n = omega (arith, nodes_width) in
+      let p₂ : 1 + 4 * n + length table_bytes ≡ 2 + 4 * n + 5 * c = omega (arith, table_width) in
       sym (ap (sets o₀ 0) bytes_by_section ∙ sets_append nodes_bytes o₀ 0 (table_bytes ++ tail_bytes)
-      ∙ ap₂ (λ (o : List ℕ) (p : ℕ). sets o p (table_bytes ++ tail_bytes)) (sym e₁) p₁ ∙ sets_append table_bytes o₁ (1 + 4 * h.nodes) tail_bytes
+      ∙ ap₂ (λ (o : List ℕ) (p : ℕ). sets o p (table_bytes ++ tail_bytes)) (sym e₁) p₁ ∙ sets_append table_bytes o₁ (1 + 4 * n) tail_bytes
       ∙ ap₂ (λ (o : List ℕ) (p : ℕ). sets o p tail_bytes) (sym e₂) p₂ ∙ sym e₃)
 
 -- ---- the outcome
 
 module _ (f : File) (out : List ℕ) where
-  pub written_faulty : (c : ℕ) → fault_of f ≡ some c → written f out ≡ record { code = c; out = out }
+  pub written_faulty : (c : Fault) → fault_of f ≡ Some c → written f out ≡ record { answer = Err c; out = out }
   unfolding written
   written_faulty c e = rw e
 
-  pub written_short : fault_of f ≡ none → length out < length (bytes_of f) → written f out ≡ record { code = 37; out = out }
+  pub written_short : fault_of f ≡ None → length out < length (bytes_of f) → written f out ≡ record { answer = Err Room; out = out }
   unfolding written
   written_short e l = rw (e, lt-leb (length (bytes_of f)) (length out) l)
 
-  pub written_whole : fault_of f ≡ none → length (bytes_of f) ≤ length out → written f out ≡ record { code = 0; out = sets out 0 (bytes_of f) }
+  pub written_whole : fault_of f ≡ None → length (bytes_of f) ≤ length out → written f out ≡ record { answer = Ok tt; out = sets out 0 (bytes_of f) }
   unfolding written
   written_whole e l =
       rw (e, le-leb (length (bytes_of f)) (length out) l, sets-eq (bytes_of f) out 0 (omega arith), zero-add (length (bytes_of f)))
 
 -- a head and steps that have no fault: their counts, and the length of their file
-module _ (h : Head) (words : List ℕ) (e : fault_of (file_of h words) ≡ none) where
-  pub counts_low : (h.nodes ≤ 8) × (h.cells ≤ 32) × (length words ≤ 4096)
+module _ (h : Head) (steps : List Step) (e : fault_of (file_of h steps) ≡ None) where
+  pub counts_low : (h.nodes ≤ 8) × (h.cells ≤ 32) × (length steps ≤ 4096)
   counts_low =
-      let p = passes_when (file_of h words) e in
-      (rw (counters_size h words) at p.nodes_high, rw (cells_size h words) at p.cells_high, rw (steps_size h words) at p.steps_high)
+      let p = passes_when (file_of h steps) e in
+      (rw (counters_size h steps) at p.nodes_high, rw (cells_size h steps) at p.cells_high, rw (steps_are h steps) at p.steps_high)
 
-  pub size_is : length (bytes_of (file_of h words)) ≡ steps_start h.nodes h.cells + 8 * length words
+  pub size_is : length (bytes_of (file_of h steps)) ≡ steps_start h.nodes h.cells + 8 * length steps
   size_is =
-      let p = passes_when (file_of h words) e in
-      rw (file_size (file_of h words) p, counters_size h words, cells_size h words, steps_size h words)
-
-pub outcome_is : (w : Written) (c : ℕ) (o : List ℕ) → w ≡ record { code = c; out = o } → (c ≡ w.code) × (o ≡ w.out)
-outcome_is w c o e = (sym (ap (λ (x : Written). x.code) e), sym (ap (λ (x : Written). x.out) e))
-
--- the three ways out, by what the code has tested
-module _ (h : Head) (words out : List ℕ) (code : ℕ) (j : Judged (file_of h words) code) where
-  abbrev outcome : Written
-  outcome = written (file_of h words) out
-
-  pub write_faulty : 0 < code → (code ≡ outcome.code) × (out ≡ outcome.out)
-  write_faulty l = outcome_is outcome code out (written_faulty (file_of h words) out code (j.faulty l))
-
-  module _ (z : code ≤ 0) where
-    pub no_fault : fault_of (file_of h words) ≡ none
-    no_fault = j.sound (omega arith)
-
-    pub write_short : length out < steps_start h.nodes h.cells + 8 * length words → (37 ≡ outcome.code) × (out ≡ outcome.out)
-    write_short l = outcome_is outcome 37 out (written_short (file_of h words) out no_fault (omega (arith, size_is h words no_fault)))
-
-    pub write_whole :
-        (o : List ℕ) → steps_start h.nodes h.cells + 8 * length words ≤ length out → o ≡ sets out 0 (bytes_of (file_of h words))
-        → (0 ≡ outcome.code) × (o ≡ outcome.out)
-    write_whole o l e =
-        let r = outcome_is outcome 0 (sets out 0 (bytes_of (file_of h words)))
-        (written_whole (file_of h words) out no_fault (omega (arith, size_is h words no_fault))) in
-        (r.0, e ∙ r.1)
+      let p = passes_when (file_of h steps) e in
+      rw (file_size (file_of h steps) p, counters_size h steps, cells_size h steps, steps_are h steps)

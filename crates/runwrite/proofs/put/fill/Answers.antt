@@ -6,5 +6,4 @@ use Rattle.runwrite.proofs.put.fill.Goals as goal
 pub returns : goal.returns
 returns c =
     let a = c.args in
-    filled a.head a.steps.now _ _ _ _ c.put_nodes.ensures (rw c.wide-n.ensures at c.put_table.ensures)
-    (rw (c.wide-n.ensures, c.wide-c.ensures) at c.put_tail.ensures)
+    filled a.head.now a.steps.now _ _ _ _ _ _ c.from-n.ensures c.from-c.ensures c.put_nodes.ensures c.put_table.ensures c.put_tail.ensures

@@ -2,14 +2,10 @@
 -- Assumes nothing.
 use mathlib.Core.Path.{◌≡◌}
 use mathlib.Core.Bool.{true}
-use Prim.Native.Nat.{◌-◌, ◌≤◌}
 use Rattle.tables.specs.Table.{at}
 use Rattle.tables.specs.Loop.{every}
 use Rattle.runfile.specs.File.{mask_sound}
 use Rattle.runwrite.proofs.put.masks_sound.Given as goal
 
 abbrev pub invariant-loop-i : goal.invariant-loop-i
-invariant-loop-i l = (l.i ≤ l.n) × (every l.i (λ j. mask_sound l.nodes (at l.masks j 0)) ≡ true)
-
-abbrev pub decreases-loop-i : goal.decreases-loop-i
-decreases-loop-i l = l.n - l.i
+invariant-loop-i l = every l.i (λ j. mask_sound l.nodes (at l.masks j 0)) ≡ true

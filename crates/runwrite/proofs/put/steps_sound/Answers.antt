@@ -1,26 +1,21 @@
 -- `runwrite::put::steps_sound` meets its contract.
 -- Assumes nothing.
-use mathlib.Core.Path.{sym, ap, ◌∙◌}
-use native.Mathlib.Omega.{arith}
+use mathlib.Core.Path.{sym, ◌∙◌}
 use Rattle.tables.specs.Table.{at}
-use Rattle.tables.proofs.Loop.{every_none, every_more, every_not, every_end}
-use Rattle.runfile.specs.File.{fields_sound}
+use Rattle.tables.proofs.Loop.{every_none, every_more}
+use Rattle.runwrite.proofs.Judging.{one_unsound, all_sound}
 use Rattle.runwrite.proofs.put.steps_sound.Goals as goal
 
-pub loop-i-init : goal.loop-i-init
-loop-i-init c = (omega arith, every_none _)
+pub loop-x-init : goal.loop-x-init
+loop-x-init c = every_none _
 
 pub returns-then-not-fields_sound : goal.returns-then-not-fields_sound
 unfolding at
-returns-then-not-fields_sound c =
-    let e = sym (c.fields_sound.ensures ∙ ap fields_sound c.step_of.ensures) ∙ c.if-not-fields_sound.true in
-    sym (every_not _ _ _ c.loop-i-test.true e)
+returns-then-not-fields_sound c = one_unsound _ _ c.loop-x-test.true (sym c.fields_sound.ensures ∙ c.if-not-fields_sound.true)
 
-pub loop-i-preserved : goal.loop-i-preserved
+pub loop-x-preserved : goal.loop-x-preserved
 unfolding at
-loop-i-preserved c =
-    let e = sym (c.fields_sound.ensures ∙ ap fields_sound c.step_of.ensures) ∙ c.if-not-fields_sound.false in
-    (omega arith, every_more _ _ c.loop-i.invariant.1 e)
+loop-x-preserved c = every_more _ _ c.loop-x.invariant (sym c.fields_sound.ensures ∙ c.if-not-fields_sound.false)
 
 pub returns : goal.returns
-returns c = sym (every_end _ _ _ c.loop-i.invariant.0 c.loop-i-test.false c.loop-i.invariant.1)
+returns c = all_sound _ _ c.loop-x.auto.x-index-end c.loop-x-test.false c.loop-x.invariant
