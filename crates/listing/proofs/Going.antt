@@ -3,7 +3,8 @@
 use mathlib.Core.Path.{◌≡◌, refl, sym, ap, ◌∙◌}
 use mathlib.Core.Bool.{Bool, true, false, cond, ◌||◌}
 use mathlib.Core.List.{List, [], ◌++◌}
-use mathlib.Core.Option.{none, some, some-ne-none}
+use Rattle.std.specs.Prelude.{None, Some}
+use Rattle.std.proofs.lemmas.Option.{none-some}
 use Prim.Native.Nat.{ℕ, ◌+◌, ◌*◌, ◌≤◌, ◌<◌}
 use native.Mathlib.Omega.{arith}
 use lib.Dec.{ltb, eqb}
@@ -53,11 +54,11 @@ slot_used x e u =
     omega (arith, eqb-true x.slot 0 (unused_zero (uses_of x.kind).slot (eqb x.slot 0) c.0 u))
 
 module _ (part : List ℕ) (i : ℕ) (h : 8 * i + 8 ≤ length part) where
-  pub taken_is : (x : Step) → some x ≡ step_at part i → x ≡ step_in part i
+  pub taken_is : (x : Step) → Some x ≡ step_at part i → x ≡ step_in part i
   taken_is x e = let q = e ∙ step_there part i h in cc
 
-  pub taken_never : {A : Type 0} → none ≡ step_at part i → A
-  taken_never e = absurd (some-ne-none (step_in part i) (sym (e ∙ step_there part i h)))
+  pub taken_never : {A : Type 0} → None ≡ step_at part i → A
+  taken_never e = absurd (none-some (step_in part i) (e ∙ step_there part i h))
 
 -- ---- the loop
 

@@ -10,7 +10,7 @@ ghost use Rattle.listing.specs.Listing.{line_for, fresh_of};
 ghost use Rattle.listing.specs.Going.{Goes, lines_to, shown, said_by};
 
 use group::{Answer, Group};
-use runfile::{Head, Taken};
+use runfile::Head;
 
 // The paper's code, number and value of an answer.
 #[derive(Clone, Copy)]
@@ -100,7 +100,7 @@ fn lines(
     let mut at = start;
     let mut i: usize = 0;
     while i < count {
-        let Taken::Step(x) = runfile::step_at(part, i) else {
+        let Some(x) = runfile::step_at(part, i) else {
             return at;
         };
         let t = place_of(x.slot);

@@ -1,12 +1,12 @@
 -- `listing::lines` meets its contract: after i steps the state is that of the run, and their lines are written or counted.
 -- Assumes nothing.
-use mathlib.Core.Path.{◌≡◌, refl, sym, ap, ap₂, ◌∙◌}
+use mathlib.Core.Path.{◌≡◌, refl, ap, ap₂, ◌∙◌}
 use mathlib.Core.Bool.{true}
 use native.Mathlib.Omega.{arith}
 use Rattle.tables.specs.Table.{at, put}
 use Rattle.score.specs.Steps.{Stepped, step_of}
 use Rattle.runfile.specs.File.{fields_sound}
-use Rattle.runfile.specs.Parts.{taken_of, step_in}
+use Rattle.runfile.specs.Parts.{step_in}
 use Rattle.listing.proofs.Going.{gone_none, gone_size, taken_is, taken_never, is_there, still_whole, place_low, all_shown, line_fits, gone_next, ready, stepped}
 use Rattle.listing.proofs.lines.Goals as goal
 
@@ -18,7 +18,7 @@ shape_of-out-in_default c = gone_size _ _ _ _ _ _ _ _ _ _ c.loop-i.invariant
 
 pub returns-in_default : goal.returns-in_default
 returns-in_default c =
-    taken_never _ _ (is_there _ _ _ _ _ _ c.requires.0 c.requires.1 c.requires.2 _ _ _ _ c.loop-i.invariant c.loop-i-test.true) (sym (ap taken_of c.in_default.is) ∙ c.step_at.ensures)
+    taken_never _ _ (is_there _ _ _ _ _ _ c.requires.0 c.requires.1 c.requires.2 _ _ _ _ c.loop-i.invariant c.loop-i-test.true) c.in_default.ensures
 
 pub act-turn-requires : goal.act-turn-requires
 unfolding at
@@ -31,8 +31,8 @@ pub put_line-at-requires : goal.put_line-at-requires
 unfolding at
 put_line-at-requires c =
     let n : c.narrow.result ≡ c.loop-i.i = c.narrow.ensures in
-    let x : c.in-Step.x ≡ step_in c.args.part.now c.loop-i.i = taken_is _ _ (is_there _ _ _ _ _ _ c.requires.0 c.requires.1 c.requires.2 _ _ _ _ c.loop-i.invariant c.loop-i-test.true) _ (sym (ap taken_of c.in-Step.is) ∙ c.step_at.ensures) in
-    let f : fields_sound c.in-Step.x ≡ true = rw x (c.requires.0.fields _ c.loop-i-test.true) in
+    let x : c.in-Some.x ≡ step_in c.args.part.now c.loop-i.i = taken_is _ _ (is_there _ _ _ _ _ _ c.requires.0 c.requires.1 c.requires.2 _ _ _ _ c.loop-i.invariant c.loop-i-test.true) _ c.in-Some.ensures in
+    let f : fields_sound c.in-Some.x ≡ true = rw x (c.requires.0.fields _ c.loop-i-test.true) in
     let w = still_whole _ _ _ _ _ _ c.requires.0 c.requires.1 c.requires.2 _ _ _ _ c.loop-i.invariant c.loop-i-test.true in
     let e = stepped c.args.g _ _ _ _ _ _ _ w _ _ refl _ f c.place_of-t.ensures.0 _ c.place-n.ensures _ c.counters_at-c.ensures _ _ _ _ _ _
     c.act-turn.ensures _ refl _ refl
@@ -51,8 +51,8 @@ pub loop-i-preserved : goal.loop-i-preserved
 unfolding at put
 loop-i-preserved c =
     let n : c.narrow.result ≡ c.loop-i.i = c.narrow.ensures in
-    let x : c.in-Step.x ≡ step_in c.args.part.now c.loop-i.i = taken_is _ _ (is_there _ _ _ _ _ _ c.requires.0 c.requires.1 c.requires.2 _ _ _ _ c.loop-i.invariant c.loop-i-test.true) _ (sym (ap taken_of c.in-Step.is) ∙ c.step_at.ensures) in
-    let f : fields_sound c.in-Step.x ≡ true = rw x (c.requires.0.fields _ c.loop-i-test.true) in
+    let x : c.in-Some.x ≡ step_in c.args.part.now c.loop-i.i = taken_is _ _ (is_there _ _ _ _ _ _ c.requires.0 c.requires.1 c.requires.2 _ _ _ _ c.loop-i.invariant c.loop-i-test.true) _ c.in-Some.ensures in
+    let f : fields_sound c.in-Some.x ≡ true = rw x (c.requires.0.fields _ c.loop-i-test.true) in
     let w = still_whole _ _ _ _ _ _ c.requires.0 c.requires.1 c.requires.2 _ _ _ _ c.loop-i.invariant c.loop-i-test.true in
     let e = stepped c.args.g _ _ _ _ _ _ _ w _ _ refl _ f c.place_of-t.ensures.0 _ c.place-n.ensures _ c.counters_at-c.ensures _ _ _ _ _ _
     c.act-turn.ensures _ refl _ c.put_counters-changed.ensures
