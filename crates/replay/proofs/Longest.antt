@@ -8,7 +8,7 @@ use lib.ListN.{length, length-append}
 use Rattle.kinds.specs.declared.Step.{Step}
 use Rattle.text.proofs.Digits.{decimal_size}
 use Rattle.little.proofs.Laws.{Bytes}
-use Rattle.runfile.specs.File.{File, Read, got, fault, read_file, joined, step_bytes}
+use Rattle.runfile.specs.File.{File, Read, code_of, got, fault, read_file, joined, step_bytes}
 use Rattle.runfile.specs.Head.{head_of}
 use Rattle.runfile.proofs.BothWays.{Sound, written_read}
 use Rattle.listing.specs.Listing.{lines_from, fresh_of}
@@ -30,4 +30,4 @@ longest_text b h = go (read_file b) refl
   where
     go : (x : Read File) → read_file b ≡ x → length (text_of x) ≤ 122894
     go (got f rest) e = let w = written_read b f rest h e in sound_short f w.1
-    go (fault c) e = omega (arith, refused_length c, decimal_size c)
+    go (fault c) e = omega (arith, refused_length (code_of c), decimal_size (code_of c))

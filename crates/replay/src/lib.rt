@@ -11,7 +11,7 @@ ghost use Rattle.replay.specs.Replay.{front_of, text_of};
 ghost use Rattle.replay.specs.Plays.{Plays};
 ghost use Rattle.listing.specs.Going.{lines_to};
 
-use runfile::{Head, Verdict};
+use runfile::Head;
 
 // No text is longer, so that an output of this size need not be measured first.
 const LONGEST: usize = 122894;
@@ -50,12 +50,11 @@ pub fn replay(file: &[u8], out: &mut [u8]) -> usize
     ensures { (result ≡ length (text_of (read_file file.now)))
         × (out.new ≡ placed out.old 0 (text_of (read_file file.now))) }
 {
-    let opened = runfile::open(file);
-    let verdict = opened.verdict;
-    let h = opened.head;
-    if let Verdict::Faulty(code) = verdict {
-        return front::refused(code, out);
+    match runfile::open(file) {
+        Ok(h) => {
+            let part = runfile::steps(file, h.nodes, h.cells, h.steps);
+            run(h, part, out)
+        }
+        Err(fault) => front::refused(fault.code(), out),
     }
-    let part = runfile::steps(file, h.nodes, h.cells, h.steps);
-    run(h, part, out)
 }

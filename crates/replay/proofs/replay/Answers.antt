@@ -6,19 +6,19 @@ use Rattle.little.proofs.Laws.{Bytes}
 use Rattle.replay.proofs.Opened.{text_faulty, opened_sound, run_plays, text_sound}
 use Rattle.replay.proofs.replay.Goals as goal
 
-pub returns-in-Faulty : goal.returns-in-Faulty
-returns-in-Faulty c = text_faulty _ _ c.open-opened.ensures _ c.in-Faulty.is _ _ _ c.refused.ensures
+pub returns-in-Err : goal.returns-in-Err
+returns-in-Err c = text_faulty _ _ c.in-Err.ensures _ c.code.ensures _ _ _ c.refused.ensures
 
 pub run-requires : goal.run-requires
 unfolding at
 run-requires c =
     let b : Bytes c.args.file.now = λ i l. omega (arith, c.type_inv.file i) in
-    let e = c.open-opened.ensures in
-    run_plays _ _ e b _ c.steps-part.ensures.bytes (opened_sound _ _ e b c.in_default.is)
+    let e = c.in-Ok.ensures in
+    run_plays _ _ e b _ c.steps-part.ensures.bytes (opened_sound _ _ e b)
 
-pub returns : goal.returns
+pub returns-in-Ok : goal.returns-in-Ok
 unfolding at
-returns c =
+returns-in-Ok c =
     let b : Bytes c.args.file.now = λ i l. omega (arith, c.type_inv.file i) in
-    let e = c.open-opened.ensures in
-    text_sound _ _ e b _ c.steps-part.ensures.bytes (opened_sound _ _ e b c.in_default.is) _ _ _ c.run.ensures
+    let e = c.in-Ok.ensures in
+    text_sound _ _ e b _ c.steps-part.ensures.bytes (opened_sound _ _ e b) _ _ _ c.run.ensures

@@ -5,5 +5,5 @@ use Rattle.replay.proofs.front.put.Goals as goal
 
 pub returns : goal.returns
 returns c =
-    wrote_front c.args.h _ c.requires _ _ c.bytes-first.ensures _ _ (rw c.wide.ensures at c.closed-second.ensures) _ _
-    (rw c.wide-2.ensures at c.closed-third.ensures) _ _ (rw c.wide16.ensures at c.closed.ensures)
+    wrote_front c.args.h _ c.requires _ _ c.bytes-first.ensures _ _ (rw c.from.ensures at c.closed-second.ensures) _ _
+    (rw c.from-2.ensures at c.closed-third.ensures) _ _ (rw c.from-3.ensures at c.closed.ensures)

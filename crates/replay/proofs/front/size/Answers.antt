@@ -7,7 +7,7 @@ use Rattle.replay.proofs.front.size.Goals as goal
 pub returns : goal.returns
 returns c =
     let h = c.args.h in
-    let p = rw c.wide.ensures at c.size.ensures in
-    let q = rw c.wide-2.ensures at c.size-2.ensures in
-    let r = rw c.wide16.ensures at c.size-3.ensures in
+    let p = rw c.from.ensures at c.size.ensures in
+    let q = rw c.from-2.ensures at c.size-2.ensures in
+    let r = rw c.from-3.ensures at c.size-3.ensures in
     (omega (arith, front_length h, p.0, q.0, r.0), omega (arith, p.1, q.1, r.1))
