@@ -6,7 +6,19 @@ ghost use Rattle.std.specs.Prelude.{◌≡◌, length};
 ghost use Rattle.text.specs.Text.{placed};
 ghost use Rattle.runfile.specs.File.{read_file};
 ghost use Rattle.replay.specs.Replay.{text_of};
-ghost use Rattle.cilumbara.specs.Library.{check_of, rewrite_of};
+ghost use Rattle.cilumbara.specs.Library.{check_of, rewrite_of, told};
+
+use runfile::Fault;
+
+// C is told a number: 0, or that of the fault.
+fn code(answer: Result<(), Fault>) -> u8
+    ensures { result ≡ told answer }
+{
+    match answer {
+        Ok(()) => 0,
+        Err(fault) => fault.code(),
+    }
+}
 
 // The text that the run program prints for a file, at the front of the output, or nothing where it doesn't fit. Returns the text's length.
 #[unsafe(no_mangle)]
@@ -20,17 +32,17 @@ pub extern "C" fn cilumbara_replay(file: &[u8], out: &mut [u8]) -> usize
 // The code of a file's first fault by place; 0 for a sound file.
 #[unsafe(no_mangle)]
 pub extern "C" fn cilumbara_check(file: &[u8]) -> u8
-    ensures { result ≡ check_of (read_file file.now) }
+    ensures { result ≡ told (check_of (read_file file.now)) }
 {
-    cilumbara::cilumbara_check(file)
+    code(cilumbara::cilumbara_check(file))
 }
 
 // Reads a file and writes its run anew: 0 and the same bytes at the front of the output. A fault's code, or 37 where the output is too
 // short, writes nothing.
 #[unsafe(no_mangle)]
 pub extern "C" fn cilumbara_rewrite(file: &[u8], out: &mut [u8]) -> u8
-    ensures { (result ≡ (rewrite_of (read_file file.now) out.old).code)
+    ensures { (result ≡ told (rewrite_of (read_file file.now) out.old).answer)
         × (out.new ≡ (rewrite_of (read_file file.now) out.old).out) }
 {
-    cilumbara::cilumbara_rewrite(file, out)
+    code(cilumbara::cilumbara_rewrite(file, out))
 }
