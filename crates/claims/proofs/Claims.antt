@@ -3,9 +3,10 @@
 -- Assumes nothing.
 use mathlib.Core.Path.{◌≡◌, refl}
 use mathlib.Core.Logic.{◌≢◌}
-use mathlib.Core.List.{List, [], ◌++◌, map}
+use mathlib.Core.List.{List, [], ◌++◌}
 use mathlib.Core.Bool.{true}
-use mathlib.Core.Option.{Option, some}
+use mathlib.Core.Option.{Option}
+use Rattle.std.specs.Prelude.{Some, Ok}
 use Prim.Native.Nat.{ℕ, ◌+◌, ◌^◌, ◌≤◌, ◌<◌}
 use lib.ListN.{length, get_or, take, drop}
 use Rattle.tables.specs.Table.{at}
@@ -24,12 +25,12 @@ use Rattle.desk.specs.Acts.{does, cuts}
 use Rattle.score.specs.Steps.{step_whole, step_of}
 use Rattle.little.specs.Little.{fits, number_at, stored}
 use Rattle.little.proofs.Laws.{Bytes, number_stored, stored_before, stored_past}
+use Rattle.runfile.specs.declared.Fault.{Fault}
 use Rattle.runfile.specs.File.{File, got, fault, bytes_of, read_file}
 use Rattle.runfile.specs.Head.{head_of}
 use Rattle.runfile.proofs.BothWays.{Sound, read_written, written_read, one_run, one_file, Outcome, outcome, not_both_ways, one_fault}
-use Rattle.runwrite.specs.Writing.{word_of, step_of as step_in, file_of}
+use Rattle.runwrite.specs.Writing.{file_of}
 use Rattle.runwrite.proofs.Back.{file_back}
-use Rattle.runwrite.proofs.Judging.{word_step}
 use Rattle.runfile.proofs.Longer.{longer_input}
 use Rattle.text.specs.Text.{decimal, placed}
 use Rattle.text.proofs.Digits.{decimal_first, decimal_only}
@@ -106,31 +107,28 @@ pub sound_or_faulty : (b : List ℕ) → Bytes b → Outcome b
 sound_or_faulty = outcome
 
 -- Never both, and never two faults.
-pub never_both : (f : File) (c : ℕ) → Sound f → read_file (bytes_of f) ≡ fault c → ⊥
+pub never_both : (f : File) (c : Fault) → Sound f → read_file (bytes_of f) ≡ fault c → ⊥
 never_both = not_both_ways
 
-pub one_fault_only : (b : List ℕ) (c d : ℕ) → read_file b ≡ fault c → read_file b ≡ fault d → c ≡ d
+pub one_fault_only : (b : List ℕ) (c d : Fault) → read_file b ≡ fault c → read_file b ≡ fault d → c ≡ d
 one_fault_only = one_fault
 
--- Every sound run can be handed to the writer, as its head and its steps' numbers; a number of eight bytes is one step's.
-pub every_run_written : (f : File) → Sound f → file_of (head_of f) (map word_of f.steps) ≡ f
+-- Every run can be handed to the writer, as its head and its steps.
+pub every_run_written : (f : File) → file_of (head_of f) f.steps ≡ f
 every_run_written = file_back
-
-pub one_number_a_step : (w : ℕ) → word_of (step_in w) ≡ w
-one_number_a_step = word_step
 
 -- What storing a number of k bytes means: it is read back from there, and every byte before it and past it is as it was.
 pub stored_means :
     (out : List ℕ) (i k x : ℕ)
-    → (fits (length out) i k ≡ true → x < 256 ^ k → number_at (stored out i k x) i k ≡ some x)
+    → (fits (length out) i k ≡ true → x < 256 ^ k → number_at (stored out i k x) i k ≡ Some x)
     × ((n : ℕ) → n ≤ i → take n (stored out i k x) ≡ take n out)
     × ((n : ℕ) → i + k ≤ n → drop n (stored out i k x) ≡ drop n out)
 stored_means out i k x = (number_stored out i k x, stored_before out i k x, stored_past out i k x)
 
--- The library's function that writes a file anew gives 0 and the same bytes for every sound file that fits.
+-- The library's function that writes a file anew refuses no sound file that fits, and gives the same bytes.
 pub rewritten_same :
     (b : List ℕ) (f : File) (r : List ℕ) (out : List ℕ) → Bytes b → read_file b ≡ got f r → length b ≤ length out
-    → rewrite_of (read_file b) out ≡ record { code = 0; out = b ++ drop (length b) out }
+    → rewrite_of (read_file b) out ≡ record { answer = Ok tt; out = b ++ drop (length b) out }
 rewritten_same = rewrite_same
 
 -- An input longer than the longest file is judged by its first 32,965 bytes, which is all that the run program reads.

@@ -7,16 +7,13 @@ use mathlib.Core.List.{List}
 use mathlib.Core.Option.{Option, none, some}
 use Prim.Native.Nat.{ℕ}
 use denote.Ref.{Bor}
-use Rattle.kinds.specs.declared.Step.{Step}
 use Rattle.number.specs.declared.Proposal.{Proposal}
 use Rattle.number.specs.Proposal.{result_of as proposed}
 use Rattle.chain.specs.declared.Version.{Version}
 use Rattle.chain.specs.declared.Lookup.{Lookup}
 use Rattle.chain.specs.Chain.{chains, result_of as found}
-use Rattle.little.specs.declared.Number.{Number}
-use Rattle.little.specs.Little.{Tail, result_of as read}
-use Rattle.runfile.specs.declared.Taken.{Taken}
-use Rattle.runfile.specs.Parts.{StepsPart, taken_of}
+use Rattle.little.specs.Little.{Tail}
+use Rattle.runfile.specs.Parts.{StepsPart}
 
 -- ---- equations
 
@@ -55,30 +52,6 @@ same_lookup = told found back again
     again : (x : Lookup) → back (found x) ≡ x
     again (Lookup.Found v) = refl
     again Lookup.Nothing = refl
-
--- little::number_at, take and read
-pub same_number : (x y : Number) → read x ≡ read y → x ≡ y
-same_number = told read back again
-  where
-    back : Option ℕ → Number
-    back none = Number.Missing
-    back (some k) = Number.Is k
-
-    again : (x : Number) → back (read x) ≡ x
-    again (Number.Is k) = refl
-    again Number.Missing = refl
-
--- runfile::step_at
-pub same_step : (x y : Taken) → taken_of x ≡ taken_of y → x ≡ y
-same_step = told taken_of back again
-  where
-    back : Option Step → Taken
-    back none = Taken.Nothing
-    back (some x) = Taken.Step x
-
-    again : (x : Taken) → back (taken_of x) ≡ x
-    again (Taken.Step x) = refl
-    again Taken.Nothing = refl
 
 -- ---- parts of lent bytes: the same bytes at the same place in the caller's memory
 

@@ -8,8 +8,9 @@ use Rattle.kinds.specs.declared.Step.{Step}
 use Rattle.group.specs.State.{State, counters_at}
 use Rattle.group.specs.Answer.{Said, said}
 use Rattle.score.specs.Steps.{step_of}
-use Rattle.runfile.specs.File.{fault, read_file}
+use Rattle.runfile.specs.File.{read_file}
 use Rattle.claims.specs.Runs.{answers, replies}
+use Rattle.claims.specs.Tables.{verdict}
 
 pub data Example : Type 0 where
   faults : (bytes : List ℕ) → (code : ℕ) → Example
@@ -19,7 +20,7 @@ pub data Example : Type 0 where
   leaves : State → Step → Said → (node : ℕ) → Counters → Example
 
 abbrev pub Holds : Example → Type 0
-Holds (faults b c) = read_file b ≡ fault c
+Holds (faults b c) = verdict (read_file b) ≡ c
 Holds (proposes n c r) = proposal n c ≡ r
 Holds (runs s xs r) = answers s xs ≡ r
 Holds (inner s xs r) = replies s xs ≡ r

@@ -4,12 +4,12 @@ use Rattle.std.specs.Prelude.{◌≡◌, List, [], ◌∷◌, ◌++◌, map, ℕ
 use Rattle.group.specs.declared.Answer.{Answer}
 use Rattle.group.specs.declared.Answer.TheVariants.{Done, Value, Wait, Yes, No, Committed, Aborted, Cut, Refused}
 use Rattle.group.specs.Answer.{Said, says, said}
-use Rattle.runfile.specs.File.{File, Read, got, fault, read_file}
+use Rattle.runfile.specs.File.{File, Read, code_of, got, fault, read_file}
 
--- the fault of a file; 0 for a sound one
+-- the number of a file's fault; 0 for a sound one
 abbrev pub verdict : Read File → ℕ
 verdict (got f rest) = 0
-verdict (fault c) = c
+verdict (fault c) = code_of c
 
 unfoldable pub fault_in : List ℕ → ℕ
 fault_in b = verdict (read_file b)
