@@ -29,10 +29,7 @@ fn size_space() -> [u8; 4]
 fn next_size<R: Read>(input: &mut R) -> io::Result<Option<usize>> {
     let mut bytes = size_space();
     let n = show::read_full(input, &mut bytes)?;
-    match little::read(&bytes[..n], 0, 4) {
-        little::Number::Is(size) => Ok(Some(size as usize)),
-        little::Number::Missing => Ok(None),
-    }
+    Ok(little::read(&bytes[..n], 0, 4).map(|size| size as usize))
 }
 
 // A file that fills the part, if the input has so many bytes more.
