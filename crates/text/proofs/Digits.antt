@@ -1,8 +1,9 @@
 -- Laws of decimal numbers, for code, and for whoever reads what was written.
 -- Assumes nothing.
 use mathlib.Core.Path.{◌≡◌, refl, sym, ap, ◌∙◌}
-use Prim.Native.Nat.{ℕ, zero, suc, ◌+◌, ◌*◌, ◌-◌, ◌/◌, ◌%◌, ◌^◌, ◌≤◌, ◌<◌}
+use Prim.Native.Nat.{ℕ, zero, suc, ◌+◌, ◌*◌, ◌-◌, ◌/◌, ◌%◌, ◌^◌, ◌≤◌, ◌<◌, max}
 use mathlib.Core.List.{List, [], ◌∷◌, ◌++◌}
+use native.Mathlib.Nat.{one-le-pow}
 use native.Mathlib.Omega.{arith}
 use lib.Dec.{ltb}
 use lib.ListN.{length, get_or, length-append, get_or-append}
@@ -74,6 +75,20 @@ short_in (suc k) (suc j) n h =
 pub decimal_short : (j n : ℕ) → n < 10 ^ suc j → length (decimal n) ≤ suc j
 unfolding decimal
 decimal_short j n h = short_in 10 j n h
+
+long_in : (k j n : ℕ) → 10 ^ j ≤ n → j < k → suc j ≤ length (decimal_in k n)
+long_in zero j n h l = absurd (omega arith)
+long_in (suc k) zero n h l = decimal_some_in k n
+long_in (suc k) (suc j) n h l =
+    by_digits n (λ m. absurd (omega (arith, one-le-pow j 10 (omega arith)))) (λ m. omega (arith, decimal_size_more k n m, long_in k j (n / 10) (omega arith) (omega arith)))
+
+-- how many digits that makes, by the power of ten below
+pub decimal_log : (j n : ℕ) → 10 ^ j ≤ max n 1 → max n 1 < 10 * 10 ^ j → j < 10 → length (decimal n) ≡ j + 1
+unfolding decimal
+decimal_log zero n h l m = omega (arith, decimal_size n, decimal_short 0 n (omega arith))
+decimal_log (suc j) n h l m =
+    let p = one-le-pow j 10 (omega arith) in
+    omega (arith, p, decimal_short (suc j) n (omega (arith, p)), long_in 10 (suc j) n (omega (arith, p)) m)
 
 -- ---- a number read back from its digits
 
