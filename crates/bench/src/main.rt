@@ -5,29 +5,15 @@ ghost use Rattle.std.specs.Prelude.{◌≡◌, length};
 
 use std::io::{self, Read, Write};
 
-// Longer than the longest file, for inputs that are too long.
-fn file_space() -> [u8; 65536]
-    ensures { 65536 ≡ length result }
+fn space<const N: usize>() -> [u8; N]
+    ensures { N ≡ length result }
 {
-    [0; 65536]
-}
-
-// As long as the longest text.
-fn text_space() -> [u8; 122894]
-    ensures { 122894 ≡ length result }
-{
-    [0; 122894]
-}
-
-fn size_space() -> [u8; 4]
-    ensures { 4 ≡ length result }
-{
-    [0; 4]
+    [0; N]
 }
 
 // The length that stands before the next file, if there is one.
 fn next_size<R: Read>(input: &mut R) -> io::Result<Option<usize>> {
-    let mut bytes = size_space();
+    let mut bytes = space::<4>();
     let n = show::read_full(input, &mut bytes)?;
     Ok(little::read(&bytes[..n], 0, 4).map(|size| size as usize))
 }
@@ -76,7 +62,8 @@ fn all<R: Read, W: Write>(
 }
 
 fn main(rt: HostRuntime) -> io::Result<()> {
-    let mut file = file_space();
-    let mut text = text_space();
+    // longer than the longest file, for inputs that are too long; and as long as the longest text
+    let mut file = space::<65536>();
+    let mut text = space::<122894>();
     all(&mut rt.stdin(), &mut file, &mut text, &mut rt.stdout())
 }

@@ -4,7 +4,7 @@ use mathlib.Core.Path.{◌≡◌, refl, ap, ◌∙◌}
 use mathlib.Core.Logic.{◌≢◌}
 use mathlib.Core.Bool.{Bool, cond, ◌&&◌}
 use mathlib.Core.List.{List}
-use mathlib.Core.Option.{Option, none, some, map}
+use Rattle.std.specs.Prelude.{Option, None, Some, option_map}
 use Prim.Native.Nat.{ℕ, ◌+◌, ◌-◌, ◌≤◌, ◌<◌}
 use native.Mathlib.Omega.{arith}
 use lib.Dec.{ltb, leb}
@@ -17,21 +17,14 @@ use Rattle.tables.proofs.Choice.{by_test, and_true}
 use Rattle.tables.proofs.Table.{put_size, put_same, put_other}
 use Rattle.tables.proofs.Pair.{pair_high, pair_low}
 use Rattle.tables.proofs.Loop.{last_at_none, last_at_next, Last, no_last, last, last_is}
-use Rattle.chain.specs.Chain.{len_at, size, version_at, newest, latest, has_room, Chains, chains, added, unpacked}
+use Rattle.chain.specs.Chain.{len_at, size, version_at, newest, latest, has_room, chains, added, unpacked}
 use Rattle.chain.specs.declared.Version.{Version}
+use Rattle.chain.specs.declared.Chains.{Chains}
 
 module _ (lens : List ℕ) (c n : ℕ) where
   pub len_in : c < 32 → n < 8 → len_at lens c n ≡ at lens (pair 8 c n) 0
   unfolding len_at
   len_in hc hn = rw (lt-ltb c 32 hc, lt-ltb n 8 hn)
-
-  pub len_no_cell : 32 ≤ c → len_at lens c n ≡ 9
-  unfolding len_at
-  len_no_cell h = rw (le-ltb c 32 h)
-
-  pub len_no_node : c < 32 → 8 ≤ n → len_at lens c n ≡ 9
-  unfolding len_at
-  len_no_node hc h = rw (lt-ltb c 32 hc, le-ltb n 8 h)
 
   -- what has a length is a chain
   pub len_chain : len_at lens c n ≤ 8 → (c < 32) × (n < 8)
@@ -58,18 +51,18 @@ module _ (lens : List ℕ) (c n : ℕ) where
 
 -- what the k oldest versions hold
 unfoldable pub newest_of : List ℕ → ℕ → ℕ → ℕ → ℕ → Option Version
-newest_of versions c n s k = map (version_at versions c n) (last_at k (λ i. leb (version_at versions c n i).number s))
+newest_of versions c n s k = option_map (version_at versions c n) (last_at k (λ i. leb (version_at versions c n i).number s))
 
 pub newest_all : (lens versions : List ℕ) (c n s : ℕ) → newest lens versions c n s ≡ newest_of versions c n s (size lens c n)
 unfolding newest newest_of
 newest_all lens versions c n s = refl
 
 module _ (versions : List ℕ) (c n s : ℕ) where
-  pub newest_none : newest_of versions c n s 0 ≡ none
+  pub newest_none : newest_of versions c n s 0 ≡ None
   unfolding newest_of
   newest_none = rw last_at_none
 
-  pub newest_here : (k : ℕ) → 0 < k → (version_at versions c n (k - 1)).number ≤ s → newest_of versions c n s k ≡ some (version_at versions c n (k - 1))
+  pub newest_here : (k : ℕ) → 0 < k → (version_at versions c n (k - 1)).number ≤ s → newest_of versions c n s k ≡ Some (version_at versions c n (k - 1))
   unfolding newest_of
   newest_here k h l =
       let e : k ≡ k - 1 + 1 = omega arith in
@@ -83,10 +76,10 @@ module _ (versions : List ℕ) (c n s : ℕ) where
 
 -- which version is meant, however it is looked for
 pub data Newest (lens versions : List ℕ) (c n s : ℕ) : Option Version → Type 0 where
-  no_version : ((i : ℕ) → i < size lens c n → s < (version_at versions c n i).number) → Newest lens versions c n s none
+  no_version : ((i : ℕ) → i < size lens c n → s < (version_at versions c n i).number) → Newest lens versions c n s None
   version :
       (i : ℕ) → i < size lens c n → (version_at versions c n i).number ≤ s
-      → ((j : ℕ) → i < j → j < size lens c n → s < (version_at versions c n j).number) → Newest lens versions c n s (some (version_at versions c n i))
+      → ((j : ℕ) → i < j → j < size lens c n → s < (version_at versions c n j).number) → Newest lens versions c n s (Some (version_at versions c n i))
 
 pub newest_is : (lens versions : List ℕ) (c n s : ℕ) → Newest lens versions c n s (newest lens versions c n s)
 unfolding newest
@@ -95,9 +88,9 @@ newest_is lens versions c n s = go (last_at (size lens c n) low) (last_is (size 
     low : ℕ → Bool
     low i = leb (version_at versions c n i).number s
 
-    go : (r : Option ℕ) → Last (size lens c n) low r → Newest lens versions c n s (map (version_at versions c n) r)
-    go none (no_last f) = no_version (λ i h. leb-false _ _ (f i h))
-    go (some i) (last h e f) = version i h (leb-true _ _ e) (λ j a b. leb-false _ _ (f j a b))
+    go : (r : Option ℕ) → Last (size lens c n) low r → Newest lens versions c n s (option_map (version_at versions c n) r)
+    go None (no_last f) = no_version (λ i h. leb-false _ _ (f i h))
+    go (Some i) (last h e f) = version i h (leb-true _ _ e) (λ j a b. leb-false _ _ (f j a b))
 
 -- ---- the newest number
 

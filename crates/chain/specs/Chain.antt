@@ -1,19 +1,12 @@
 -- Chains of versions, in two tables: how many versions the chain of cell c at node n has, and the versions, oldest first, each a number
 -- above a value.
 -- Assumes nothing.
-use Rattle.std.specs.Prelude.{ℕ, ◌+◌, ◌-◌, ◌/◌, ◌%◌, Bool, cond, ◌&&◌, List, ltb, leb, eqb}
-use Rattle.std.proofs.Math.Option.{Option, none, some, map}
+use Rattle.std.specs.Prelude.{ℕ, ◌+◌, ◌-◌, ◌/◌, ◌%◌, Bool, cond, ◌&&◌, List, ltb, leb, eqb, Option, option_map}
 use Rattle.tables.specs.Table.{at, put}
 use Rattle.tables.specs.Pair.{pair, word}
 use Rattle.tables.specs.Loop.{last_at}
 use Rattle.chain.specs.declared.Version.{Version}
-use Rattle.chain.specs.declared.Lookup.{Lookup}
-use Rattle.chain.specs.declared.Lookup.TheVariants.{Found, Nothing}
-
--- what an answer stands for: a version, or none
-abbrev pub result_of : Lookup → Option Version
-result_of (Found v) = some v
-result_of Nothing = none
+use Rattle.chain.specs.declared.Chains.{Chains}
 
 -- a version from the word that holds it
 abbrev pub unpacked : ℕ → Version
@@ -34,7 +27,7 @@ version_at versions c n i = unpacked (at versions (pair 8 (pair 8 c n) i) 0)
 -- the newest version numbered at or below s
 unfoldable pub newest : List ℕ → List ℕ → ℕ → ℕ → ℕ → Option Version
 newest lens versions c n s =
-    map (version_at versions c n) (last_at (size lens c n) (λ i. leb (version_at versions c n i).number s))
+    option_map (version_at versions c n) (last_at (size lens c n) (λ i. leb (version_at versions c n i).number s))
 
 -- the number of the newest version; 0 where there is none
 unfoldable pub latest : List ℕ → List ℕ → ℕ → ℕ → ℕ
@@ -45,10 +38,6 @@ unfoldable pub has_room : List ℕ → ℕ → ℕ → Bool
 has_room lens c n = ltb (len_at lens c n) 8
 
 -- the two tables together
-pub record Chains : Type 0 where
-  pub lens : List ℕ
-  pub versions : List ℕ
-
 abbrev pub chains : List ℕ → List ℕ → Chains
 chains ls vs = record { lens = ls; versions = vs }
 

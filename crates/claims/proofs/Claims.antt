@@ -5,19 +5,20 @@ use mathlib.Core.Path.{◌≡◌, refl}
 use mathlib.Core.Logic.{◌≢◌}
 use mathlib.Core.List.{List, [], ◌++◌}
 use mathlib.Core.Bool.{true}
-use mathlib.Core.Option.{Option}
-use Rattle.std.specs.Prelude.{Some, Ok}
 use Prim.Native.Nat.{ℕ, ◌+◌, ◌^◌, ◌≤◌, ◌<◌}
 use lib.ListN.{length, get_or, take, drop}
+use Rattle.std.specs.Prelude.{Option, Some, Ok}
 use Rattle.tables.specs.Table.{at}
 use Rattle.number.specs.Proposal.{proposal, IsProposal}
 use Rattle.number.proofs.Laws.{proposal_is, proposal_only}
 use Rattle.kinds.specs.declared.Step.{Step}
-use Rattle.kinds.specs.Kinds.{Kind}
+use Rattle.kinds.specs.declared.Kind.{Kind}
+use Rattle.group.specs.declared.Group.{Group}
+use Rattle.group.specs.declared.Tables.{Tables}
+use Rattle.group.specs.declared.Refusal.TheVariants.{NotWhole}
+use Rattle.group.specs.declared.Answer.{Answer}
 use Rattle.group.specs.declared.Answer.TheVariants.{Cut, Refused}
 use Rattle.group.specs.State.{State}
-use Rattle.chain.specs.Chain.{Chains}
-use Rattle.score.specs.declared.After.{After}
 use Rattle.score.specs.Parts.{reached}
 use Rattle.score.proofs.WholeLaws.{step_only}
 use Rattle.desk.specs.Desk.{Desk}
@@ -39,8 +40,7 @@ use Rattle.replay.specs.Replay.{text_of}
 use Rattle.replay.proofs.Longest.{longest_text}
 use Rattle.cilumbara.specs.Library.{rewrite_of}
 use Rattle.cilumbara.proofs.Laws.{rewrite_same}
-use Rattle.serial.specs.Serial as Group
-use Rattle.serial.specs.Serial.{Steps32, start, run_of, Serial}
+use Rattle.serial.specs.Serial.{Sound as SoundGroup, Steps32, start, run_of, Serial}
 use Rattle.serial.proofs.Theorem.{serial}
 use Rattle.serial.proofs.CutLaw.{with_counter, cut_law}
 use Rattle.serial.proofs.Never as Never
@@ -58,9 +58,8 @@ use Rattle.claims.proofs.Decided.{same}
 
 -- The contract of the step is its whole outcome: two that meet it are equal, the answer, the state and every lent table.
 pub step_decided :
-    (s : State) (x : Step) (r r' : After) (flight flight' : List ℕ) (h h' : Chains) (writes writes' reads reads' : List ℕ)
-    → reached r flight h writes reads ≡ step_of s x → reached r' flight' h' writes' reads' ≡ step_of s x
-    → (r ≡ r') × (flight ≡ flight') × (h ≡ h') × (writes ≡ writes') × (reads ≡ reads')
+    (s : State) (x : Step) (a a' : Answer) (g g' : Group) (t t' : Tables)
+    → reached a g t ≡ step_of s x → reached a' g' t' ≡ step_of s x → (a ≡ a') × (g ≡ g') × (t ≡ t')
 step_decided = step_only
 
 -- The proposal rule, for every node number and every counter: what is proposed is what the paper says ..
@@ -166,16 +165,16 @@ placed_means out i bytes = (placed_there out i bytes, placed_before out i bytes,
 
 -- From a fresh run of any sound group, after any steps, refused and cut ones among them: distinct numbers, and every value ever handed out
 -- explained by running the committed writers one by one on one copy.
-pub serial_statement : (nodes cells : ℕ) (counters masks values : List ℕ) → Group.Sound nodes cells counters masks values → (xs : List Step) → Steps32 xs
+pub serial_statement : (nodes cells : ℕ) (counters masks values : List ℕ) → SoundGroup nodes cells counters masks values → (xs : List Step) → Steps32 xs
     → Serial (λ c. at values c 0) (run_of (start nodes cells counters masks values) xs)
 serial_statement = serial
 
 -- Never 15: no step of such a run answers it, and the step that doesn't test for a whole state is the step.
-pub never_15 : (nodes cells : ℕ) (counters masks values : List ℕ) → Group.Sound nodes cells counters masks values → (xs : List Step) → Steps32 xs → (x : Step)
-    → (step_of (run_of (start nodes cells counters masks values) xs).state x).answer ≢ Refused 15
+pub never_15 : (nodes cells : ℕ) (counters masks values : List ℕ) → SoundGroup nodes cells counters masks values → (xs : List Step) → Steps32 xs → (x : Step)
+    → (step_of (run_of (start nodes cells counters masks values) xs).state x).answer ≢ Refused NotWhole
 never_15 = Never.never_15
 
-pub inner_step : (nodes cells : ℕ) (counters masks values : List ℕ) → Group.Sound nodes cells counters masks values → (xs : List Step) → Steps32 xs → (x : Step)
+pub inner_step : (nodes cells : ℕ) (counters masks values : List ℕ) → SoundGroup nodes cells counters masks values → (xs : List Step) → Steps32 xs → (x : Step)
     → step_of (run_of (start nodes cells counters masks values) xs).state x ≡ step_whole (run_of (start nodes cells counters masks values) xs).state x
 inner_step = Never.inner_step
 

@@ -1,17 +1,11 @@
 -- A contract says all of an outcome: two outcomes that meet it are equal. Most contracts are equations with a definition, for each part of
--- the outcome, and `same` is all there is to show; an answer that is an enum is told by what it stands for, and a part of lent bytes by what
--- it holds and where it lies.
+-- the outcome, and `same` is all there is to show; a part of lent bytes is told by what it holds and where it lies.
 -- Assumes nothing.
-use mathlib.Core.Path.{◌≡◌, refl, sym, ap, ◌∙◌}
+use mathlib.Core.Path.{◌≡◌, sym, ap, ◌∙◌}
 use mathlib.Core.List.{List}
-use mathlib.Core.Option.{Option, none, some}
 use Prim.Native.Nat.{ℕ}
 use denote.Ref.{Bor}
-use Rattle.number.specs.declared.Proposal.{Proposal}
-use Rattle.number.specs.Proposal.{result_of as proposed}
-use Rattle.chain.specs.declared.Version.{Version}
-use Rattle.chain.specs.declared.Lookup.{Lookup}
-use Rattle.chain.specs.Chain.{chains, result_of as found}
+use Rattle.chain.specs.Chain.{chains}
 use Rattle.little.specs.Little.{Tail}
 use Rattle.runfile.specs.Parts.{StepsPart}
 
@@ -23,35 +17,6 @@ same x y z p q = p ∙ sym q
 -- chains are their two tables
 pub same_chains : (lens lens' versions versions' : List ℕ) → chains lens versions ≡ chains lens' versions' → (lens ≡ lens') × (versions ≡ versions')
 same_chains lens lens' versions versions' e = (ap (λ c. c.lens) e, ap (λ c. c.versions) e)
-
--- ---- answers that are enums: what each stands for tells it
-
-told : {E A : Type 0} (read : E → A) (back : A → E) → ((x : E) → back (read x) ≡ x) → (x y : E) → read x ≡ read y → x ≡ y
-told read back h x y e = sym (h x) ∙ ap back e ∙ h y
-
--- number::propose
-pub same_proposal : (x y : Proposal) → proposed x ≡ proposed y → x ≡ y
-same_proposal = told proposed back again
-  where
-    back : Option ℕ → Proposal
-    back none = Proposal.Nothing
-    back (some k) = Proposal.Number k
-
-    again : (x : Proposal) → back (proposed x) ≡ x
-    again (Proposal.Number k) = refl
-    again Proposal.Nothing = refl
-
--- chain::newest
-pub same_lookup : (x y : Lookup) → found x ≡ found y → x ≡ y
-same_lookup = told found back again
-  where
-    back : Option Version → Lookup
-    back none = Lookup.Nothing
-    back (some v) = Lookup.Found v
-
-    again : (x : Lookup) → back (found x) ≡ x
-    again (Lookup.Found v) = refl
-    again Lookup.Nothing = refl
 
 -- ---- parts of lent bytes: the same bytes at the same place in the caller's memory
 

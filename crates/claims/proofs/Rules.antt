@@ -5,21 +5,23 @@ use mathlib.Core.Path.{◌≡◌}
 use mathlib.Core.Logic.{◌≢◌}
 use mathlib.Core.Bool.{true, false}
 use mathlib.Core.List.{List}
-use mathlib.Core.Option.{some}
 use Prim.Native.Nat.{ℕ, ◌≤◌, ◌<◌}
 use lib.ListN.{length}
+use Rattle.std.specs.Prelude.{Ok, Err, Some}
 use Rattle.tables.specs.Pair.{pair}
 use Rattle.tables.proofs.Tests.{Passed}
 use Rattle.number.specs.Proposal.{IsProposal}
 use Rattle.counters.specs.declared.Counters.{Counters}
-use Rattle.chain.specs.Chain.{Chains, len_at, latest}
+use Rattle.chain.specs.declared.Chains.{Chains}
+use Rattle.chain.specs.Chain.{len_at, latest}
 use Rattle.group.specs.declared.Slot.{Slot}
 use Rattle.group.specs.declared.Answer.TheVariants.{Done, Yes}
 use Rattle.group.specs.State.{holds, voted_yes, tag_at, number_at, unfinished, noted, has, committed, aborted, stage_number, ask_of, note_of, final_of, snapshot_of, in_stage}
 use Rattle.group.specs.Answer.{said}
 use Rattle.read.specs.Read.{serve_turn, return_turn}
 use Rattle.read.proofs.Reasons as Read
-use Rattle.vote.specs.Vote.{prepare_tests, Vote, votes_yes, votes_no, vote, prepare_turn}
+use Rattle.vote.specs.declared.Reason.TheVariants.{Conflict}
+use Rattle.vote.specs.Vote.{prepare_tests, Vote, vote, prepare_turn}
 use Rattle.vote.proofs.Reasons.{Apart}
 use Rattle.vote.proofs.Reasons as Voting
 use Rattle.decide.specs.Decide.{final}
@@ -70,7 +72,7 @@ pub yes_saves : (slot : Slot) (c : Counters) (v : Vote) (k : ℕ) → (prepare_t
 yes_saves = Voting.yes_saves
 
 module _ (slot : Slot) (c : Counters) (cells : ℕ) (masks flight : List ℕ) (chains : Chains) (writes reads : List ℕ) (t n : ℕ) where
-  module _ (k : ℕ) (e : vote slot c cells masks flight chains writes reads t n ≡ votes_yes k) where
+  module _ (k : ℕ) (e : vote slot c cells masks flight chains writes reads t n ≡ Ok k) where
     -- A yes locks: whatever else is unfinished here is apart from t.
     pub yes_alone : (u i : ℕ) → u < 32 → u ≢ t → unfinished flight u n ≡ true → i < cells → holds masks n i ≡ true → Apart writes reads t u i
     yes_alone = Voting.yes_alone slot c cells masks flight chains writes reads t n k e
@@ -83,13 +85,13 @@ module _ (slot : Slot) (c : Counters) (cells : ℕ) (masks flight : List ℕ) (c
     pub yes_room : (i : ℕ) → i < cells → holds masks n i ≡ true → 0 < noted writes t i → len_at chains.lens i n ≤ 7
     yes_room = Voting.yes_room slot c cells masks flight chains writes reads t n k e
 
-    pub yes_number : IsProposal n c.counter (some k)
+    pub yes_number : IsProposal n c.counter (Some k)
     yes_number = Voting.yes_number slot c cells masks flight chains writes reads t n k e
 
   -- A no for reason 1 is another's doing: what t itself reads is no bar to what it writes.
   pub own_is_no_bar :
       ((u i : ℕ) → u < 32 → u ≢ t → unfinished flight u n ≡ true → i < cells → holds masks n i ≡ true → Apart writes reads t u i)
-      → vote slot c cells masks flight chains writes reads t n ≢ votes_no 1
+      → vote slot c cells masks flight chains writes reads t n ≢ Err Conflict
   own_is_no_bar = Voting.own_is_no_bar slot c cells masks flight chains writes reads t n
 
 -- The final number is no less than any proposal.
@@ -119,7 +121,7 @@ apply_least = Settling.apply_least
 pub apply_first : (flight : List ℕ) (n : ℕ) → Passed (apply_tests flight n) → First flight n (least flight n)
 apply_first = Settling.apply_first
 
-pub apply_unlocks : (flight : List ℕ) (t n : ℕ) → pair 8 t n < length flight → unfinished (apply_flight flight n (some t)) t n ≡ false
+pub apply_unlocks : (flight : List ℕ) (t n : ℕ) → pair 8 t n < length flight → unfinished (apply_flight flight n (Some t)) t n ≡ false
 apply_unlocks = Settling.apply_unlocks
 
 -- Advance is for an idle node, and its commit number rises.

@@ -1,9 +1,8 @@
 -- Examples that pin the definitions where a weaker one would do for the serial statement.
 -- Assumes nothing.
-use Rattle.std.specs.Prelude.{true, List, [], ◌∷◌, ℕ}
+use Rattle.std.specs.Prelude.{true, List, [], ◌∷◌, ℕ, Some}
 use Rattle.tables.specs.Table.{put}
 use Rattle.kinds.specs.declared.Step.{Step}
-use Rattle.group.specs.declared.Snapshot.TheVariants.{Fixed}
 use Rattle.group.specs.declared.Stage.TheVariants.{Served}
 use Rattle.group.specs.State.{State}
 use Rattle.group.specs.Answer.{Said, says}
@@ -146,7 +145,7 @@ spoiled =
         cells = 2;
         counters = (two zero).group.counters;
         masks = 3 ∷ 2 ∷ [];
-        slots = put (two zero).group.slots 0 (record { stage = Served (record { node = 1; cell = 1; s = 8; value = 20; stale = true }); origin = 0; update = true; snapshot = Fixed 8 });
+        slots = put (two zero).group.slots 0 (record { stage = Served (record { node = 1; cell = 1; s = 8; value = 20; stale = true }); origin = 0; update = true; snapshot = Some 8 });
       };
       flight = (two zero).flight;
       chains = (two zero).chains;

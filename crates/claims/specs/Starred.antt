@@ -1,7 +1,6 @@
 -- The examples that the paper stars, as one list.
 -- Assumes nothing.
-use Rattle.std.specs.Prelude.{List, [], ◌∷◌}
-use Rattle.std.proofs.Math.Option.{none, some}
+use Rattle.std.specs.Prelude.{List, [], ◌∷◌, None, Some}
 use Rattle.group.specs.State.{State}
 use Rattle.group.specs.Answer.{says}
 use Rattle.fresh.specs.Fresh.{fresh}
@@ -45,15 +44,15 @@ finals =
 
 abbrev pub starred : List Example
 starred =
-    proposes 0 0 (some 8)
-    ∷ proposes 1 0 (some 1)
-    ∷ proposes 3 2 (some 3)
-    ∷ proposes 3 3 (some 11)
-    ∷ proposes 3 10 (some 11)
-    ∷ proposes 7 4294967294 (some 4294967295)
-    ∷ proposes 7 4294967295 none
-    ∷ proposes 0 4294967288 none
-    ∷ proposes 0 4294967287 (some 4294967288)
+    proposes 0 0 (Some 8)
+    ∷ proposes 1 0 (Some 1)
+    ∷ proposes 3 2 (Some 3)
+    ∷ proposes 3 3 (Some 11)
+    ∷ proposes 3 10 (Some 11)
+    ∷ proposes 7 4294967294 (Some 4294967295)
+    ∷ proposes 7 4294967295 None
+    ∷ proposes 0 4294967288 None
+    ∷ proposes 0 4294967287 (Some 4294967288)
     ∷ finals
     ∷ faults [] 32
     ∷ faults (0 ∷ []) 33

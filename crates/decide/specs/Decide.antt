@@ -7,6 +7,8 @@ use Rattle.counters.specs.declared.Counters.{Counters}
 use Rattle.group.specs.declared.Slot.{Slot}
 use Rattle.group.specs.declared.Stage.TheVariants.{Voting, Committed, Aborted}
 use Rattle.group.specs.declared.Turn.{Turn}
+use Rattle.group.specs.declared.Refusal.{Refusal}
+use Rattle.group.specs.declared.Refusal.TheVariants.{WrongStage, VoteLacks}
 use Rattle.group.specs.declared.Answer.TheVariants.{Done}
 use Rattle.group.specs.declared.Answer.TheVariants as Answer
 use Rattle.group.specs.State.{sent, voted_no, voted_yes, tag_at, number_at, writer, involved, opened, voting, in_stage, at_stage}
@@ -14,8 +16,8 @@ use Rattle.group.specs.Answer.{turn}
 
 -- ---- step 6, commit
 
-abbrev pub commit_tests : Slot → List (Bool × ℕ)
-commit_tests slot = (in_stage slot opened, 19) ∷ []
+abbrev pub commit_tests : Slot → List (Bool × Refusal)
+commit_tests slot = (in_stage slot opened, WrongStage) ∷ []
 
 -- no writes: committed, number 0
 unfoldable pub commit_turn : Slot → Counters → Bool → Turn
@@ -40,9 +42,9 @@ refused_by nodes flight t = any nodes (λ n. eqb (tag_at flight t n) voted_no)
 unfoldable pub lacking : ℕ → List ℕ → ℕ → Bool
 lacking nodes flight t = any nodes (λ n. eqb (tag_at flight t n) sent)
 
-unfoldable pub decide_tests : Slot → ℕ → List ℕ → ℕ → List (Bool × ℕ)
+unfoldable pub decide_tests : Slot → ℕ → List ℕ → ℕ → List (Bool × Refusal)
 decide_tests slot nodes flight t =
-    (in_stage slot voting, 19) ∷ (refused_by nodes flight t || not (lacking nodes flight t), 24) ∷ []
+    (in_stage slot voting, WrongStage) ∷ (refused_by nodes flight t || not (lacking nodes flight t), VoteLacks) ∷ []
 
 -- what node n proposed; 0 where it has no yes vote
 abbrev pub proposed : List ℕ → ℕ → ℕ → ℕ

@@ -1,3 +1,3 @@
-pub mod Laws
 pub mod Acts
 pub mod Codes
+pub mod Fields

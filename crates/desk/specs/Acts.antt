@@ -1,11 +1,14 @@
 -- The thirteen steps of a desk, their refusals, and cut steps.
 -- Assumes nothing.
-use Rattle.std.specs.Prelude.{Bool, cond, not, ◌&&◌, ◌||◌, List, ◌∷◌, ℕ, leb, ltb}
-use Rattle.std.proofs.Math.Option.{Option, none, some}
+use Rattle.std.specs.Prelude.{Bool, cond, not, ◌&&◌, ◌||◌, List, ◌∷◌, ℕ, leb, ltb, Option, None, Some}
 use Rattle.tables.specs.Tests.{refusal}
 use Rattle.counters.specs.Counters.{counted_to}
 use Rattle.kinds.specs.declared.Step.{Step}
-use Rattle.kinds.specs.Kinds.{Kind, begin, write, ask, serve, return, commit, prepare, decide, give_up, learn, apply, advance, abandon, named, is_known, uses_of}
+use Rattle.kinds.specs.declared.Kind.{Kind}
+use Rattle.kinds.specs.declared.Kind.TheVariants.{Begin as begin, Write as write, Ask as ask, Serve as serve, Return as return, Commit as commit, Prepare as prepare, Decide as decide, GiveUp as give_up, Learn as learn, Apply as apply, Advance as advance, Abandon as abandon}
+use Rattle.kinds.specs.Kinds.{named, is_known, uses_of}
+use Rattle.group.specs.declared.Refusal.{Refusal}
+use Rattle.group.specs.declared.Refusal.TheVariants.{NoKind, NoNode, NoPlace}
 use Rattle.group.specs.declared.Answer.TheVariants.{Cut, Refused}
 use Rattle.group.specs.State.{writer, ask_of, note_of, final_of}
 use Rattle.life.specs.Life.{begin_tests, begin_turn, cleared, write_tests, write_turn, written, give_up_tests, abandon_tests, end_turn}
@@ -19,17 +22,17 @@ use Rattle.desk.specs.Desk.{Desk, Outcome, turned, with_flight, with_chains, wit
 
 -- ---- refusals 16 to 18: by the table of kinds, so that unused fields don't matter
 
-abbrev pub field_tests : ℕ → ℕ → Step → List (Bool × ℕ) → List (Bool × ℕ)
+abbrev pub field_tests : ℕ → ℕ → Step → List (Bool × Refusal) → List (Bool × Refusal)
 field_tests nodes cells x ts =
     let u = uses_of x.kind in
-    (is_known x.kind, 16)
-    ∷ (not u.node || ltb x.node nodes, 17)
-    ∷ ((not u.slot || ltb x.slot 32) && (not u.cell || ltb x.cell cells), 18)
+    (is_known x.kind, NoKind)
+    ∷ (not u.node || ltb x.node nodes, NoNode)
+    ∷ ((not u.slot || ltb x.slot 32) && (not u.cell || ltb x.cell cells), NoPlace)
     ∷ ts
 
 -- ---- refusals 19 to 24: what each kind needs
 
-unfoldable pub needs : Desk → Step → Kind → List (Bool × ℕ)
+unfoldable pub needs : Desk → Step → Kind → List (Bool × Refusal)
 needs q x begin = begin_tests q.slot x
 needs q x write = write_tests q.slot
 needs q x ask = ask_tests q.slot q.masks q.writes x.slot x.node x.cell
@@ -95,13 +98,13 @@ cuts q x k = record { answer = Cut; desk = with_counters q (counted_to q.counter
 
 -- ---- the step
 
-abbrev pub refuses : Desk → ℕ → Outcome
-refuses q c = record { answer = Refused c; desk = q }
+abbrev pub refuses : Desk → Refusal → Outcome
+refuses q why = record { answer = Refused why; desk = q }
 
 -- what is judged, and where nothing fails, what is done
-abbrev pub judge : Option ℕ → Desk → Outcome → Outcome
-judge none q o = o
-judge (some c) q o = refuses q c
+abbrev pub judge : Option Refusal → Desk → Outcome → Outcome
+judge None q o = o
+judge (Some why) q o = refuses q why
 
 unfoldable pub act : Desk → Step → Outcome
 act q x =

@@ -3,8 +3,10 @@
 -- Assumes nothing.
 use Rattle.std.specs.Prelude.{List, ℕ}
 use Rattle.counters.specs.declared.Counters.{Counters}
-use Rattle.chain.specs.Chain.{Chains}
+use Rattle.chain.specs.declared.Chains.{Chains}
 use Rattle.group.specs.declared.Slot.{Slot}
+use Rattle.group.specs.declared.Group.{Group}
+use Rattle.group.specs.declared.Tables.{Tables}
 use Rattle.group.specs.declared.Answer.{Answer}
 use Rattle.group.specs.declared.Turn.{Turn}
 
@@ -23,6 +25,10 @@ pub record Desk : Type 0 where
 abbrev pub desk : ℕ → ℕ → List ℕ → Slot → Counters → List ℕ → Chains → List ℕ → List ℕ → Desk
 desk nodes cells masks slot counters flight chains writes reads =
     record { nodes = nodes; cells = cells; masks = masks; slot = slot; counters = counters; flight = flight; chains = chains; writes = writes; reads = reads }
+
+-- the desk of a slot and one node's counters, over a group and its tables
+abbrev pub desk_on : Group → Tables → Slot → Counters → Desk
+desk_on g t slot counters = desk g.nodes g.cells g.masks slot counters t.flight t.chains t.writes t.reads
 
 -- an answer, and the desk after it
 pub record Outcome : Type 0 where

@@ -1,13 +1,27 @@
 -- What a step answers, and what it makes of the one slot and the one node's counters that it moves.
 -- Assumes nothing.
-use Rattle.std.specs.Prelude.{Bool, cond, ℕ}
-use Rattle.std.proofs.Math.Option.{Option, none, some}
+use Rattle.std.specs.Prelude.{Bool, cond, ℕ, Option, None, Some, Result, Ok, Err}
 use Rattle.counters.specs.Counters.{counted_to}
 use Rattle.counters.specs.declared.Counters.{Counters}
 use Rattle.group.specs.declared.Slot.{Slot}
+use Rattle.group.specs.declared.Refusal.{Refusal}
+use Rattle.group.specs.declared.Refusal.TheVariants.{NotWhole, NoKind, NoNode, NoPlace, WrongStage, WrongValue, ReadOnly, NotAskable, Unsettled, VoteLacks}
 use Rattle.group.specs.declared.Answer.{Answer}
 use Rattle.group.specs.declared.Answer.TheVariants.{Done, Value, Wait, Yes, No, Committed, Aborted, Cut, Refused}
 use Rattle.group.specs.declared.Turn.{Turn}
+
+-- the paper's code of each refusal
+abbrev pub code : Refusal → ℕ
+code NotWhole = 15
+code NoKind = 16
+code NoNode = 17
+code NoPlace = 18
+code WrongStage = 19
+code WrongValue = 20
+code ReadOnly = 21
+code NotAskable = 22
+code Unsettled = 23
+code VoteLacks = 24
 
 -- the paper's code, number and value
 pub record Said : Type 0 where
@@ -27,25 +41,30 @@ said (No reason) = says 4 reason 0
 said (Committed k) = says 5 k 0
 said Aborted = says 6 0 0
 said Cut = says 7 0 0
-said (Refused c) = says c 0 0
+said (Refused r) = says (code r) 0 0
 
 abbrev pub turn : Answer → Slot → Counters → Turn
 turn a x c = record { answer = a; slot = x; counters = c }
 
 -- a refusal moves nothing
-abbrev pub refused_turn : ℕ → Slot → Counters → Turn
-refused_turn c x k = turn (Refused c) x k
+abbrev pub refused_turn : Refusal → Slot → Counters → Turn
+refused_turn r x k = turn (Refused r) x k
 
 -- the step cut by power loss: the counter is written as the whole step would write it, to k at least, and nothing else changes
 abbrev pub cut_turn : Slot → Counters → ℕ → Turn
 cut_turn x c k = turn Cut x (counted_to c k)
 
--- what a step comes to: refused with the code given, cut, or whole
-abbrev pub stepped : Option ℕ → Bool → Slot → Counters → ℕ → Turn → Turn
-stepped none cut x c k t = cond cut (cut_turn x c k) t
-stepped (some code) cut x c k t = refused_turn code x c
+-- what a step comes to: refused as given, cut, or whole
+abbrev pub stepped : Option Refusal → Bool → Slot → Counters → ℕ → Turn → Result Turn Refusal
+stepped None cut x c k t = Ok (cond cut (cut_turn x c k) t)
+stepped (Some r) cut x c k t = Err r
+
+-- the same as a turn, where a refusal is an answer
+abbrev pub told : Result Turn Refusal → Slot → Counters → Turn
+told (Ok t) x k = t
+told (Err r) x k = refused_turn r x k
 
 -- a table after it: changed by a whole step that is not refused
-abbrev pub changed : {A : Type 0} → Option ℕ → Bool → A → A → A
-changed none cut old new = cond cut old new
-changed (some code) cut old new = old
+abbrev pub changed : {A : Type 0} → Option Refusal → Bool → A → A → A
+changed None cut old new = cond cut old new
+changed (Some r) cut old new = old

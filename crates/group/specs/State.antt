@@ -1,20 +1,19 @@
 -- The state of a group.
 -- Assumes nothing.
-use Rattle.std.specs.Prelude.{Bool, true, false, ◌&&◌, ◌||◌, List, ℕ, ◌/◌, ◌%◌, ◌^◌, ltb, leb, eqb}
+use Rattle.std.specs.Prelude.{Bool, true, false, ◌&&◌, ◌||◌, List, ℕ, ◌/◌, ◌%◌, ◌^◌, ltb, leb, eqb, Option, None, Some}
 use Rattle.tables.specs.Table.{at, put}
 use Rattle.tables.specs.Pair.{pair, word}
 use Rattle.tables.specs.Loop.{any}
 use Rattle.counters.specs.Counters.{zeroed}
-use Rattle.chain.specs.Chain.{Chains}
+use Rattle.chain.specs.declared.Chains.{Chains}
 use Rattle.counters.specs.declared.Counters.{Counters}
-use Rattle.group.specs.declared.Snapshot.{Snapshot}
-use Rattle.group.specs.declared.Snapshot.TheVariants.{Unfixed, Fixed}
 use Rattle.group.specs.declared.Ask.{Ask}
 use Rattle.group.specs.declared.Note.{Note}
 use Rattle.group.specs.declared.Stage.{Stage}
 use Rattle.group.specs.declared.Stage.TheVariants.{Unused, Open, Asking, Served, Voting, Committed, Aborted}
 use Rattle.group.specs.declared.Slot.{Slot}
 use Rattle.group.specs.declared.Group.{Group}
+use Rattle.group.specs.declared.Tables.{Tables}
 
 -- the typed part and the tables: what stands between each transaction and node, the chains, and what each transaction wrote and read
 pub record State : Type 0 where
@@ -24,9 +23,22 @@ pub record State : Type 0 where
   pub writes : List ℕ
   pub reads : List ℕ
 
--- a state from its parts
-abbrev pub state_of : Group → List ℕ → Chains → List ℕ → List ℕ → State
-state_of g flight chains writes reads = record { group = g; flight = flight; chains = chains; writes = writes; reads = reads }
+-- a state from its two parts
+abbrev pub state_of : Group → Tables → State
+state_of g t = record { group = g; flight = t.flight; chains = t.chains; writes = t.writes; reads = t.reads }
+
+-- tables of which one is another
+abbrev pub with_flight : Tables → List ℕ → Tables
+with_flight t flight = record { flight = flight; chains = t.chains; writes = t.writes; reads = t.reads }
+
+abbrev pub with_chains : Tables → Chains → Tables
+with_chains t chains = record { flight = t.flight; chains = chains; writes = t.writes; reads = t.reads }
+
+abbrev pub with_writes : Tables → List ℕ → Tables
+with_writes t writes = record { flight = t.flight; chains = t.chains; writes = writes; reads = t.reads }
+
+abbrev pub with_reads : Tables → List ℕ → Tables
+with_reads t reads = record { flight = t.flight; chains = t.chains; writes = t.writes; reads = reads }
 
 -- ---- holders
 
@@ -154,13 +166,13 @@ final_of (Committed k) = k
 final_of Aborted = 0
 
 -- a snapshot as a number; 0 where none is fixed
-abbrev pub snapshot_of : Snapshot → ℕ
-snapshot_of Unfixed = 0
-snapshot_of (Fixed s) = s
+abbrev pub snapshot_of : Option ℕ → ℕ
+snapshot_of None = 0
+snapshot_of (Some s) = s
 
-abbrev pub is_fixed : Snapshot → Bool
-is_fixed Unfixed = false
-is_fixed (Fixed s) = true
+abbrev pub is_fixed : Option ℕ → Bool
+is_fixed None = false
+is_fixed (Some s) = true
 
 -- is the slot in the stage of that number
 abbrev pub in_stage : Slot → ℕ → Bool
@@ -172,7 +184,7 @@ at_stage slot st = record { stage = st; origin = slot.origin; update = slot.upda
 
 -- a slot that was never used
 abbrev pub no_slot : Slot
-no_slot = record { stage = Unused; origin = 0; update = false; snapshot = Unfixed }
+no_slot = record { stage = Unused; origin = 0; update = false; snapshot = None }
 
 abbrev pub slot_at : State → ℕ → Slot
 slot_at s t = at s.group.slots t no_slot

@@ -1,14 +1,15 @@
-// The state of a group: its small typed part, which goes by value, and five long tables, which the caller lends and which are changed
-// where they lie. The functions here are for callers that know their places to be in range: whoever takes a state or a step from outside has tested that.
+// The state of a group: its small typed part, and its tables, which are changed where they lie; what a step answers. Every function takes any
+// slot, node and cell: where there is no such place, what stands there is nothing, and nothing is written.
 #![tactic(auto)]
 
-ghost use Rattle.std.specs.Prelude.{◌≡◌, ◌/◌, ◌%◌, ◌^◌, ◌≤◌, ◌<◌, eqb};
+ghost use Rattle.std.specs.Prelude.{◌≡◌, ◌/◌, ◌%◌, ◌^◌, eqb};
 ghost use Rattle.tables.specs.Table.{at, put};
 ghost use Rattle.tables.specs.Pair.{pair};
-ghost use Rattle.group.specs.State.{holds as is_holder, tag_at, number_at, entered, unfinished as is_unfinished, noted as noted_at, has as has_note, writer as is_writer, involved as is_involved, touched, stage_number, no_ask, ask_of, no_note, note_of, final_of, snapshot_of, is_fixed, at_stage};
-ghost use Rattle.group.specs.Answer.{turn, refused_turn, cut_turn};
+ghost use Rattle.group.specs.State.{holds as is_holder, tag_at, number_at, entered, unfinished as is_unfinished, noted as noted_at, has as has_note, writer as is_writer, involved as is_involved, touched, stage_number, no_ask, ask_of, no_note, note_of, final_of, at_stage, with_flight};
+ghost use Rattle.group.specs.Answer.{code, turn, refused_turn, cut_turn};
 ghost use Rattle.group.specs.declared.Answer.TheVariants.{Done as IsDone};
 
+use chain::Chains;
 use counters::Counters;
 
 // The stages by number.
@@ -38,13 +39,6 @@ pub const VOTED_YES: u32 = 3;
 pub const TO_APPLY: u32 = 4;
 
 pub const FINISHED: u32 = 5;
-
-// A transaction's snapshot is fixed by its first read.
-#[derive(Clone, Copy)]
-pub enum Snapshot {
-    Unfixed,
-    Fixed(u32),
-}
 
 // A read that is asked of a node: its s is at least what is carried, or exactly that.
 #[derive(Clone, Copy)]
@@ -77,13 +71,22 @@ pub enum Stage {
     Aborted,
 }
 
+// A transaction's snapshot is fixed by its first read.
 #[derive(Clone, Copy)]
 pub struct Slot {
     pub stage: Stage,
     pub origin: u8,
     pub update: bool,
-    pub snapshot: Snapshot,
+    pub snapshot: Option<u32>,
 }
+
+// A slot that was never used.
+pub const NO_SLOT: Slot = Slot {
+    stage: Stage::Unused,
+    origin: 0,
+    update: false,
+    snapshot: None,
+};
 
 #[derive(Clone, Copy)]
 pub struct Group {
@@ -92,6 +95,50 @@ pub struct Group {
     pub counters: [Counters; 8],
     pub masks: [u8; 32],
     pub slots: [Slot; 32],
+}
+
+// What stands between each transaction and node, the chains, and what each transaction wrote and read.
+#[derive(Clone, Copy)]
+pub struct Tables {
+    pub flight: [u64; 256],
+    pub chains: Chains,
+    pub writes: [u64; 1024],
+    pub reads: [u64; 1024],
+}
+
+// Why a step is refused: the paper's codes 15 to 24, in their order.
+#[derive(Clone, Copy, PartialEq, Eq)]
+pub enum Refusal {
+    NotWhole,
+    NoKind,
+    NoNode,
+    NoPlace,
+    WrongStage,
+    WrongValue,
+    ReadOnly,
+    NotAskable,
+    Unsettled,
+    VoteLacks,
+}
+
+impl Refusal {
+    // The paper's code.
+    pub fn code(self) -> u32
+        ensures { result ≡ code self }
+    {
+        match self {
+            Refusal::NotWhole => 15,
+            Refusal::NoKind => 16,
+            Refusal::NoNode => 17,
+            Refusal::NoPlace => 18,
+            Refusal::WrongStage => 19,
+            Refusal::WrongValue => 20,
+            Refusal::ReadOnly => 21,
+            Refusal::NotAskable => 22,
+            Refusal::Unsettled => 23,
+            Refusal::VoteLacks => 24,
+        }
+    }
 }
 
 // What a step answers.
@@ -105,7 +152,7 @@ pub enum Answer {
     Committed(u32),
     Aborted,
     Cut,
-    Refused(u32),
+    Refused(Refusal),
 }
 
 // What a step makes of the one slot and the one node's counters that it moves.
@@ -116,11 +163,11 @@ pub struct Turn {
     pub counters: Counters,
 }
 
-pub fn refused(code: u32, slot: Slot, counters: Counters) -> Turn
-    ensures { result ≡ refused_turn code slot counters }
+pub fn refused(why: Refusal, slot: Slot, counters: Counters) -> Turn
+    ensures { result ≡ refused_turn why slot counters }
 {
     Turn {
-        answer: Answer::Refused(code),
+        answer: Answer::Refused(why),
         slot,
         counters,
     }
@@ -140,7 +187,7 @@ pub fn done(k: u32, slot: Slot, counters: Counters) -> Turn
 pub fn cut_at(k: u32, slot: Slot, c: Counters) -> Turn
     ensures { result ≡ cut_turn slot c k }
 {
-    let counters = counters::counted(c, k);
+    let counters = c.counted(k);
     Turn {
         answer: Answer::Cut,
         slot,
@@ -175,54 +222,36 @@ pub fn stage_number(st: Stage) -> u8
     }
 }
 
-fn no_ask() -> Ask
-    ensures { result ≡ no_ask }
-{
-    Ask {
-        node: 0,
-        cell: 0,
-        carried: 0,
-        exact: false,
-    }
-}
+const NO_ASK: Ask = Ask {
+    node: 0,
+    cell: 0,
+    carried: 0,
+    exact: false,
+};
 
 pub fn ask_of(st: Stage) -> Ask
     ensures { result ≡ ask_of st }
 {
     match st {
-        Stage::Unused => no_ask(),
-        Stage::Open => no_ask(),
         Stage::Asking(a) => a,
-        Stage::Served(_) => no_ask(),
-        Stage::Voting => no_ask(),
-        Stage::Committed(_) => no_ask(),
-        Stage::Aborted => no_ask(),
+        _ => NO_ASK,
     }
 }
 
-fn no_note() -> Note
-    ensures { result ≡ no_note }
-{
-    Note {
-        node: 0,
-        cell: 0,
-        s: 0,
-        value: 0,
-        stale: false,
-    }
-}
+const NO_NOTE: Note = Note {
+    node: 0,
+    cell: 0,
+    s: 0,
+    value: 0,
+    stale: false,
+};
 
 pub fn note_of(st: Stage) -> Note
     ensures { result ≡ note_of st }
 {
     match st {
-        Stage::Unused => no_note(),
-        Stage::Open => no_note(),
-        Stage::Asking(_) => no_note(),
         Stage::Served(v) => v,
-        Stage::Voting => no_note(),
-        Stage::Committed(_) => no_note(),
-        Stage::Aborted => no_note(),
+        _ => NO_NOTE,
     }
 }
 
@@ -230,169 +259,131 @@ pub fn final_of(st: Stage) -> u32
     ensures { result ≡ final_of st }
 {
     match st {
-        Stage::Unused => 0,
-        Stage::Open => 0,
-        Stage::Asking(_) => 0,
-        Stage::Served(_) => 0,
-        Stage::Voting => 0,
         Stage::Committed(k) => k,
-        Stage::Aborted => 0,
+        _ => 0,
     }
 }
 
-pub fn snapshot_of(x: Snapshot) -> u32
-    ensures { result ≡ snapshot_of x }
+pub fn at_stage(slot: Slot, stage: Stage) -> Slot
+    ensures { result ≡ at_stage slot stage }
 {
-    match x {
-        Snapshot::Unfixed => 0,
-        Snapshot::Fixed(s) => s,
-    }
-}
-
-pub fn is_fixed(x: Snapshot) -> bool
-    ensures { result ≡ is_fixed x }
-{
-    match x {
-        Snapshot::Unfixed => false,
-        Snapshot::Fixed(_) => true,
-    }
-}
-
-pub fn at_stage(slot: Slot, st: Stage) -> Slot
-    ensures { result ≡ at_stage slot st }
-{
-    let snapshot = slot.snapshot;
-    Slot {
-        stage: st,
-        origin: slot.origin,
-        update: slot.update,
-        snapshot,
-    }
+    Slot { stage, ..slot }
 }
 
 // ---- holders
 
+// A mask has a bit for each of eight nodes.
 fn in_mask(mask: u8, node: u8) -> bool
-    requires { node < 8 }
     ensures { result ≡ eqb (mask / 2 ^ node % 2) 1 }
 {
-    (mask >> node) % 2 == 1
+    node < 8 && (mask >> node) % 2 == 1
 }
 
-pub fn holds(masks: &[u8; 32], node: u8, cell: u8) -> bool
-    requires { (node < 8) × (cell < 32) }
-    ensures { result ≡ is_holder masks.now node cell }
+impl Group {
+    pub fn holds(&self, node: u8, cell: u8) -> bool
+        ensures { result ≡ is_holder self.now.masks node cell }
+    {
+        in_mask(tables::at(&self.masks, usize::from(cell), 0), node)
+    }
+}
+
+// ---- what a transaction wrote or read of a cell
+
+fn note_place(slot: u8, cell: u8) -> usize
+    ensures { result ≡ pair 32 slot cell }
 {
-    in_mask(masks[cell as usize], node)
+    usize::from(slot) * 32 + usize::from(cell)
 }
-
-// ---- the flight table
-
-fn entry(flight: &[u64; 256], slot: u8, node: u8) -> u64
-    requires { (slot < 32) × (node < 8) }
-    ensures { result ≡ at flight.now (pair 8 slot node) 0 }
-{
-    flight[(slot as usize) * 8 + (node as usize)]
-}
-
-pub fn tag(flight: &[u64; 256], slot: u8, node: u8) -> u32
-    requires { (slot < 32) × (node < 8) }
-    ensures { result ≡ tag_at flight.now slot node }
-{
-    (entry(flight, slot, node) / 4294967296) as u32
-}
-
-pub fn number(flight: &[u64; 256], slot: u8, node: u8) -> u32
-    requires { (slot < 32) × (node < 8) }
-    ensures { result ≡ number_at flight.now slot node }
-{
-    (entry(flight, slot, node) % 4294967296) as u32
-}
-
-pub fn enter(flight: &mut [u64; 256], slot: u8, node: u8, tag: u32, number: u32)
-    requires { (slot < 32) × (node < 8) }
-    ensures { flight.new ≡ entered flight.old slot node tag number }
-{
-    flight[(slot as usize) * 8 + (node as usize)] = (tag as u64) * 4294967296 + (number as u64);
-}
-
-#[tactic(auto, unfolding(crate::specs::State::unfinished))]
-pub fn unfinished(flight: &[u64; 256], slot: u8, node: u8) -> bool
-    requires { (slot < 32) × (node < 8) }
-    ensures { result ≡ is_unfinished flight.now slot node }
-{
-    let k = tag(flight, slot, node);
-    VOTED_YES <= k && k <= TO_APPLY
-}
-
-// ---- what a transaction wrote and read
 
 pub fn noted(table: &[u64; 1024], slot: u8, cell: u8) -> u64
-    requires { (slot < 32) × (cell < 32) }
     ensures { result ≡ noted_at table.now slot cell }
 {
-    table[(slot as usize) * 32 + (cell as usize)]
+    tables::at(table, note_place(slot, cell), 0)
 }
 
 pub fn has(table: &[u64; 1024], slot: u8, cell: u8) -> bool
-    requires { (slot < 32) × (cell < 32) }
     ensures { result ≡ has_note table.now slot cell }
 {
     0 < noted(table, slot, cell)
 }
 
 pub fn set_note(table: &mut [u64; 1024], slot: u8, cell: u8, x: u64)
-    requires { (slot < 32) × (cell < 32) }
     ensures { table.new ≡ put table.old (pair 32 slot cell) x }
 {
-    table[(slot as usize) * 32 + (cell as usize)] = x;
+    tables::put(table, note_place(slot, cell), x);
 }
 
-pub fn writer(cells: u8, writes: &[u64; 1024], slot: u8) -> bool
-    requires { (cells ≤ 32) × (slot < 32) }
-    ensures { result ≡ is_writer cells writes.now slot }
+// ---- the flight table
+
+fn entry_place(slot: u8, node: u8) -> usize
+    ensures { result ≡ pair 8 slot node }
 {
-    let mut c: u8 = 0;
-    while c < cells {
-        if has(writes, slot, c) {
-            return true;
-        }
-        c = c + 1;
+    usize::from(slot) * 8 + usize::from(node)
+}
+
+impl Tables {
+    fn entry(&self, slot: u8, node: u8) -> u64
+        ensures { result ≡ at self.now.flight (pair 8 slot node) 0 }
+    {
+        tables::at(&self.flight, entry_place(slot, node), 0)
     }
-    false
-}
 
-fn touches(
-    masks: &[u8; 32],
-    writes: &[u64; 1024],
-    reads: &[u64; 1024],
-    slot: u8,
-    node: u8,
-    cell: u8,
-) -> bool
-    requires { (slot < 32) × (node < 8) × (cell < 32) }
-    ensures { result ≡ touched masks.now writes.now reads.now slot node cell }
-{
-    holds(masks, node, cell) && (has(reads, slot, cell) || has(writes, slot, cell))
-}
-
-pub fn involved(
-    cells: u8,
-    masks: &[u8; 32],
-    writes: &[u64; 1024],
-    reads: &[u64; 1024],
-    slot: u8,
-    node: u8,
-) -> bool
-    requires { (cells ≤ 32) × (slot < 32) × (node < 8) }
-    ensures { result ≡ is_involved cells masks.now writes.now reads.now slot node }
-{
-    let mut c: u8 = 0;
-    while c < cells {
-        if touches(masks, writes, reads, slot, node, c) {
-            return true;
-        }
-        c = c + 1;
+    pub fn tag(&self, slot: u8, node: u8) -> u32
+        ensures { result ≡ tag_at self.now.flight slot node }
+    {
+        tables::high(self.entry(slot, node))
     }
-    false
+
+    pub fn number(&self, slot: u8, node: u8) -> u32
+        ensures { result ≡ number_at self.now.flight slot node }
+    {
+        tables::low(self.entry(slot, node))
+    }
+
+    pub fn enter(&mut self, slot: u8, node: u8, tag: u32, number: u32)
+        ensures { self.new ≡ with_flight self.old (entered self.old.flight slot node tag number) }
+    {
+        let word = tables::packed(tag, number);
+        tables::put(&mut self.flight, entry_place(slot, node), word);
+    }
+
+    #[tactic(auto, unfolding(crate::specs::State::unfinished))]
+    pub fn unfinished(&self, slot: u8, node: u8) -> bool
+        ensures { result ≡ is_unfinished self.now.flight slot node }
+    {
+        let k = self.tag(slot, node);
+        VOTED_YES <= k && k <= TO_APPLY
+    }
+
+    // ---- what a transaction wrote and read
+
+    pub fn wrote(&self, slot: u8, cell: u8) -> bool
+        ensures { result ≡ has_note self.now.writes slot cell }
+    {
+        has(&self.writes, slot, cell)
+    }
+
+    pub fn has_read(&self, slot: u8, cell: u8) -> bool
+        ensures { result ≡ has_note self.now.reads slot cell }
+    {
+        has(&self.reads, slot, cell)
+    }
+
+    pub fn writer(&self, g: &Group, slot: u8) -> bool
+        ensures { result ≡ is_writer g.now.cells self.now.writes slot }
+    {
+        (0..g.cells).any(|c| self.wrote(slot, c))
+    }
+
+    fn touches(&self, g: &Group, slot: u8, node: u8, cell: u8) -> bool
+        ensures { result ≡ touched g.now.masks self.now.writes self.now.reads slot node cell }
+    {
+        g.holds(node, cell) && (self.has_read(slot, cell) || self.wrote(slot, cell))
+    }
+
+    pub fn involved(&self, g: &Group, slot: u8, node: u8) -> bool
+        ensures { result ≡ is_involved g.now.cells g.now.masks self.now.writes self.now.reads slot node }
+    {
+        (0..g.cells).any(|c| self.touches(g, slot, node, c))
+    }
 }

@@ -1,126 +1,54 @@
 // "At one node no two unfinished entries share a number, and each is above the newest version of every cell it will write there, whose
 // chain has room."
-ghost use Rattle.std.specs.Prelude.{◌≡◌, ◌≤◌, ◌<◌};
+ghost use Rattle.std.specs.Prelude.{◌≡◌};
 ghost use Rattle.tables.specs.Loop.{every};
-ghost use Rattle.chain.specs.Chain.{chains};
 ghost use Rattle.whole.specs.Whole.{differ_at, fits_at, pending_sound, node_sound};
 
-// No transaction before t has t's number here.
-fn differ(flight: &[u64; 256], n: u8, t: u8) -> bool
-    requires { (n < 8) × (t < 32) }
-    ensures { result ≡ every t (differ_at flight.now n t) }
+use group::{Group, Tables};
+
+fn differ_at(tables: &Tables, n: u8, t: u8, u: u8) -> bool
+    ensures { result ≡ differ_at tables.now.flight n t u }
 {
-    let x = group::number(flight, t, n);
-    let mut ok = true;
-    let mut u: u8 = 0;
-    while u < t {
-        let y = group::number(flight, u, n);
-        ok = ok & (!group::unfinished(flight, u, n) | !(y == x));
-        u = u + 1;
-    }
-    ok
+    !tables.unfinished(u, n) || tables.number(u, n) != tables.number(t, n)
+}
+
+// No transaction before t has t's number here.
+fn differ(tables: &Tables, n: u8, t: u8) -> bool
+    ensures { result ≡ every t (differ_at tables.now.flight n t) }
+{
+    (0..t).all(|u| differ_at(tables, n, t, u))
 }
 
 // One cell that t writes with the number x and that is held here.
-fn fits_at(
-    masks: &[u8; 32],
-    lens: &[u8; 256],
-    versions: &[u64; 2048],
-    writes: &[u64; 1024],
-    n: u8,
-    t: u8,
-    x: u32,
-    c: u8,
-) -> bool
-    requires { (n < 8) × (t < 32) × (c < 32) }
-    ensures { result ≡ fits_at masks.now (chains lens.now versions.now) writes.now n t x c }
+fn fits_at(g: &Group, tables: &Tables, n: u8, t: u8, x: u32, c: u8) -> bool
+    ensures { result ≡ fits_at g.now.masks tables.now.chains tables.now.writes n t x c }
 {
-    let written = group::holds(masks, n, c) & group::has(writes, t, c);
-    let above = chain::latest(lens, versions, c, n) < x;
-    !written | (above & chain::room(lens, c, n))
+    let written = g.holds(n, c) && tables.wrote(t, c);
+    !written || (tables.chains.latest(c, n) < x && tables.chains.room(c, n))
 }
 
-fn fits(
-    cells: u8,
-    masks: &[u8; 32],
-    lens: &[u8; 256],
-    versions: &[u64; 2048],
-    writes: &[u64; 1024],
-    n: u8,
-    t: u8,
-    x: u32,
-) -> bool
-    requires { (cells ≤ 32) × (n < 8) × (t < 32) }
-    ensures { result ≡ every cells (fits_at masks.now (chains lens.now versions.now) writes.now n t x) }
+fn fits(g: &Group, tables: &Tables, n: u8, t: u8, x: u32) -> bool
+    ensures { result ≡ every g.now.cells (fits_at g.now.masks tables.now.chains tables.now.writes n t x) }
 {
-    let mut ok = true;
-    let mut c: u8 = 0;
-    while c < cells {
-        ok = ok & fits_at(masks, lens, versions, writes, n, t, x, c);
-        c = c + 1;
-    }
-    ok
+    (0..g.cells).all(|c| fits_at(g, tables, n, t, x, c))
 }
 
-fn pending_sound(
-    cells: u8,
-    masks: &[u8; 32],
-    flight: &[u64; 256],
-    lens: &[u8; 256],
-    versions: &[u64; 2048],
-    writes: &[u64; 1024],
-    n: u8,
-    t: u8,
-) -> bool
-    requires { (cells ≤ 32) × (n < 8) × (t < 32) }
-    ensures { result ≡ pending_sound cells masks.now flight.now (chains lens.now versions.now) writes.now n t }
+#[tactic(auto, unfolding(whole::specs::Whole::pending_sound))]
+fn pending_sound(g: &Group, tables: &Tables, n: u8, t: u8) -> bool
+    ensures { result ≡ pending_sound g.now.cells g.now.masks tables.now.flight tables.now.chains tables.now.writes n t }
 {
-    if !group::unfinished(flight, t, n) {
-        return true;
-    }
-    let x = group::number(flight, t, n);
-    differ(flight, n, t) & fits(cells, masks, lens, versions, writes, n, t, x)
+    !tables.unfinished(t, n) || (differ(tables, n, t) && fits(g, tables, n, t, tables.number(t, n)))
 }
 
-fn node_sound(
-    cells: u8,
-    masks: &[u8; 32],
-    flight: &[u64; 256],
-    lens: &[u8; 256],
-    versions: &[u64; 2048],
-    writes: &[u64; 1024],
-    n: u8,
-) -> bool
-    requires { (cells ≤ 32) × (n < 8) }
-    ensures { result ≡ node_sound cells masks.now flight.now (chains lens.now versions.now) writes.now n }
+fn node_sound(g: &Group, tables: &Tables, n: u8) -> bool
+    ensures { result ≡ node_sound g.now.cells g.now.masks tables.now.flight tables.now.chains tables.now.writes n }
 {
-    let mut ok = true;
-    let mut t: u8 = 0;
-    while t < 32 {
-        ok = ok & pending_sound(cells, masks, flight, lens, versions, writes, n, t);
-        t = t + 1;
-    }
-    ok
+    (0..32).all(|t| pending_sound(g, tables, n, t))
 }
 
 // At every node.
-pub(crate) fn nodes_sound(
-    nodes: u8,
-    cells: u8,
-    masks: &[u8; 32],
-    flight: &[u64; 256],
-    lens: &[u8; 256],
-    versions: &[u64; 2048],
-    writes: &[u64; 1024],
-) -> bool
-    requires { (nodes ≤ 8) × (cells ≤ 32) }
-    ensures { result ≡ every nodes (node_sound cells masks.now flight.now (chains lens.now versions.now) writes.now) }
+pub(crate) fn nodes_sound(g: &Group, tables: &Tables) -> bool
+    ensures { result ≡ every g.now.nodes (node_sound g.now.cells g.now.masks tables.now.flight tables.now.chains tables.now.writes) }
 {
-    let mut ok = true;
-    let mut n: u8 = 0;
-    while n < nodes {
-        ok = ok & node_sound(cells, masks, flight, lens, versions, writes, n);
-        n = n + 1;
-    }
-    ok
+    (0..g.nodes).all(|n| node_sound(g, tables, n))
 }

@@ -3,9 +3,9 @@
 #![tactic(auto)]
 
 ghost use Rattle.std.specs.Prelude.{◌≡◌, leb};
-ghost use Rattle.kinds.specs.Kinds.{whole_of, is_known, fields_of, uses_of};
+ghost use Rattle.kinds.specs.Kinds.{whole_of, kind_of, uses_by, uses_of};
 
-#[derive(Clone, Copy)]
+#[derive(Clone, Copy, PartialEq, Eq)]
 pub struct Step {
     pub kind: u8,
     pub slot: u8,
@@ -14,7 +14,29 @@ pub struct Step {
     pub value: u32,
 }
 
-#[derive(Clone, Copy)]
+// The thirteen kinds, in the order of their numbers 1 to 13.
+#[derive(Clone, Copy, PartialEq, Eq)]
+pub enum Kind {
+    Begin,
+    Write,
+    Ask,
+    Serve,
+    Return,
+    Commit,
+    Prepare,
+    Decide,
+    GiveUp,
+    Learn,
+    Apply,
+    Advance,
+    Abandon,
+}
+
+// A kind byte that names no kind.
+#[derive(Clone, Copy, PartialEq, Eq)]
+pub struct UnknownKind(pub u8);
+
+#[derive(Clone, Copy, PartialEq, Eq, Default)]
 pub struct Fields {
     pub slot: bool,
     pub node: bool,
@@ -22,7 +44,8 @@ pub struct Fields {
     pub value: bool,
 }
 
-// A row of the table has a bit for each field that is used: rows of one byte, since the table is laid out anew wherever it is read.
+// A row of the table has a bit for each field that is used. The table is laid out anew wherever it is read: with rows of four Booleans
+// reading a file took twice the time.
 const SLOT: u8 = 1;
 
 const NODE: u8 = 2;
@@ -32,16 +55,16 @@ const CELL: u8 = 4;
 const VALUE: u8 = 8;
 
 const USES: [u8; 13] = [
-    SLOT + NODE + VALUE, // 1 begin
-    SLOT + CELL + VALUE, // 2 write
-    SLOT + NODE + CELL, // 3 ask
+    SLOT | NODE | VALUE, // 1 begin
+    SLOT | CELL | VALUE, // 2 write
+    SLOT | NODE | CELL, // 3 ask
     SLOT, // 4 serve
     SLOT, // 5 return
     SLOT, // 6 commit
-    SLOT + NODE, // 7 prepare
+    SLOT | NODE, // 7 prepare
     SLOT, // 8 decide
     SLOT, // 9 give up
-    SLOT + NODE, // 10 learn
+    SLOT | NODE, // 10 learn
     NODE, // 11 apply
     NODE, // 12 advance
     SLOT, // 13 abandon
@@ -61,31 +84,53 @@ pub fn whole(kind: u8) -> u8
     kind % 128
 }
 
-pub fn known(kind: u8) -> bool
-    ensures { result ≡ is_known kind }
-{
-    let k = kind % 128;
-    1 <= k && k <= 13
+// Takes any byte: a cut kind is what the whole one is.
+impl TryFrom<u8> for Kind {
+    type Error = UnknownKind;
+
+    ghost try_from_gives = { λ byte outcome. outcome ≡ kind_of byte };
+
+    #[tactic(auto, unfolding(crate::specs::Kinds::kind_of, crate::specs::Kinds::named, tables::specs::Table::at))]
+    fn try_from(byte: u8) -> Result<Kind, UnknownKind> {
+        match whole(byte) {
+            1 => Ok(Kind::Begin),
+            2 => Ok(Kind::Write),
+            3 => Ok(Kind::Ask),
+            4 => Ok(Kind::Serve),
+            5 => Ok(Kind::Return),
+            6 => Ok(Kind::Commit),
+            7 => Ok(Kind::Prepare),
+            8 => Ok(Kind::Decide),
+            9 => Ok(Kind::GiveUp),
+            10 => Ok(Kind::Learn),
+            11 => Ok(Kind::Apply),
+            12 => Ok(Kind::Advance),
+            13 => Ok(Kind::Abandon),
+            _ => Err(UnknownKind(byte)),
+        }
+    }
 }
 
-// The fields whose bits a row has.
-fn of_row(row: u8) -> Fields
-    ensures { result ≡ fields_of row }
+// The fields whose bits the kind's row has.
+fn of_kind(kind: Kind) -> Fields
+    ensures { result ≡ uses_by kind }
 {
+    let row = USES[kind as usize];
     Fields {
-        slot: row % 2 == 1,
-        node: row / 2 % 2 == 1,
-        cell: row / 4 % 2 == 1,
-        value: row / 8 % 2 == 1,
+        slot: row & SLOT != 0,
+        node: row & NODE != 0,
+        cell: row & CELL != 0,
+        value: row & VALUE != 0,
     }
 }
 
 // Takes any byte: a cut kind uses what the whole one does, an unknown one nothing.
+#[tactic(auto, unfolding(crate::specs::Kinds::kind_of, crate::specs::Kinds::uses_of))]
 pub fn uses(kind: u8) -> Fields
     ensures { result ≡ uses_of kind }
 {
-    if known(kind) {
-        return of_row(USES[(kind % 128 - 1) as usize]);
+    match Kind::try_from(kind) {
+        Ok(k) => of_kind(k),
+        Err(_) => Fields::default(),
     }
-    of_row(0)
 }

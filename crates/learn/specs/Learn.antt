@@ -3,6 +3,8 @@
 use Rattle.std.specs.Prelude.{Bool, cond, ◌&&◌, ◌||◌, List, [], ◌∷◌, ℕ, leb}
 use Rattle.counters.specs.Counters.{counted_to}
 use Rattle.counters.specs.declared.Counters.{Counters}
+use Rattle.group.specs.declared.Refusal.{Refusal}
+use Rattle.group.specs.declared.Refusal.TheVariants.{WrongStage}
 use Rattle.group.specs.declared.Slot.{Slot}
 use Rattle.group.specs.State.{sent, voted_yes, to_apply, finished, tag_at, entered, committed, aborted, final_of, in_stage}
 use Rattle.group.specs.declared.Turn.{Turn}
@@ -12,9 +14,9 @@ use Rattle.group.specs.Answer.{turn}
 -- ---- rule D, learn: transaction t at node n, whose counters these are
 
 -- decided after voting, with n involved and not yet learned
-unfoldable pub learn_tests : Slot → List ℕ → ℕ → ℕ → List (Bool × ℕ)
+unfoldable pub learn_tests : Slot → List ℕ → ℕ → ℕ → List (Bool × Refusal)
 learn_tests slot flight t n =
-    (in_stage slot committed || in_stage slot aborted, 19) ∷ (leb sent (tag_at flight t n) && leb (tag_at flight t n) voted_yes, 19) ∷ []
+    (in_stage slot committed || in_stage slot aborted, WrongStage) ∷ (leb sent (tag_at flight t n) && leb (tag_at flight t n) voted_yes, WrongStage) ∷ []
 
 -- committed: the counter rises to the final number; aborted: nothing rises
 unfoldable pub learn_turn : Slot → Counters → Turn

@@ -1,38 +1,21 @@
 -- Laws of the loop over a run's steps: where it stands after i of them, and what one more does.
 -- Assumes nothing.
-use mathlib.Core.Path.{◌≡◌, refl, sym, ap, ◌∙◌}
-use mathlib.Core.Bool.{Bool, true, false, cond, ◌||◌}
+use mathlib.Core.Path.{◌≡◌, refl, sym, ap, ap₂, ◌∙◌}
+use mathlib.Core.Bool.{Bool, true, false}
 use mathlib.Core.List.{List, [], ◌++◌}
-use Rattle.std.specs.Prelude.{None, Some}
-use Rattle.std.proofs.lemmas.Option.{none-some}
 use Prim.Native.Nat.{ℕ, ◌+◌, ◌*◌, ◌≤◌, ◌<◌}
 use native.Mathlib.Omega.{arith}
-use lib.Dec.{ltb, eqb}
 use lib.ListN.{length}
-use borrow.Author.Tests.{eqb-true}
-use Rattle.tables.specs.Table.{at, put}
-use Rattle.tables.proofs.Choice.{and_true, not_both}
-use Rattle.counters.specs.declared.Counters.{Counters}
-use Rattle.counters.specs.Counters.{zeroed}
-use Rattle.chain.specs.Chain.{chains}
+use Rattle.std.specs.Prelude.{None, Some}
+use Rattle.tables.proofs.Choice.{some_none}
 use Rattle.kinds.specs.declared.Step.{Step}
-use Rattle.kinds.specs.Kinds.{uses_of, named}
 use Rattle.group.specs.declared.Answer.{Answer}
-use Rattle.group.specs.declared.Group.{Group}
-use Rattle.group.specs.declared.Slot.{Slot}
-use Rattle.group.specs.declared.Turn.{Turn}
-use Rattle.group.specs.State.{State, state_of, no_slot}
+use Rattle.group.specs.State.{State}
 use Rattle.whole.specs.Whole.{whole}
-use Rattle.desk.specs.Desk.{desk}
-use Rattle.score.specs.Place.{node_of}
-use Rattle.desk.specs.Ready.{Ready}
-use Rattle.desk.specs.Parts.{outcome}
-use Rattle.desk.specs.Acts.{act}
-use Rattle.score.specs.Steps.{Stepped, step_of}
-use Rattle.score.proofs.WholeLaws.{whole_ready, put_back_at, is_whole}
+use Rattle.score.specs.Steps.{Stepped, step_whole, step_of}
+use Rattle.score.proofs.WholeLaws.{is_whole}
 use Rattle.text.specs.Text.{placed}
 use Rattle.text.proofs.Placed.{placed_size, placed_none, placed_then}
-use Rattle.runfile.specs.File.{fields_sound}
 use Rattle.runfile.specs.Parts.{step_in, step_at}
 use Rattle.runfile.proofs.Parts.{step_there}
 use Rattle.listing.specs.Listing.{line_for}
@@ -41,31 +24,14 @@ use Rattle.listing.proofs.Laws.{line_at, states_next, states_none, lines_next, l
 
 -- ---- the step that is taken
 
-unused_zero : (u e : Bool) → (u || e) ≡ true → u ≡ false → e ≡ true
-unused_zero true e p q = absurd (not_both refl q)
-unused_zero false e p q = p
-
--- a slot field that isn't used is zero
-slot_used : (x : Step) → fields_sound x ≡ true → (uses_of x.kind).slot ≡ false → x.slot < 32
-slot_used x e u =
-    let a = and_true _ _ e in
-    let b = and_true _ _ a.0 in
-    let c = and_true _ _ b.0 in
-    omega (arith, eqb-true x.slot 0 (unused_zero (uses_of x.kind).slot (eqb x.slot 0) c.0 u))
-
 module _ (part : List ℕ) (i : ℕ) (h : 8 * i + 8 ≤ length part) where
   pub taken_is : (x : Step) → Some x ≡ step_at part i → x ≡ step_in part i
   taken_is x e = let q = e ∙ step_there part i h in cc
 
   pub taken_never : {A : Type 0} → None ≡ step_at part i → A
-  taken_never e = absurd (none-some (step_in part i) (e ∙ step_there part i h))
+  taken_never e = absurd (some_none (step_in part i) (sym (e ∙ step_there part i h)))
 
 -- ---- the loop
-
--- the state in parts, as the loop holds it
-abbrev pub state_in : Group → List Counters → List Slot → List ℕ → List ℕ → List ℕ → List ℕ → List ℕ → State
-state_in g counters slots flight lens versions writes reads =
-    state_of (record { nodes = g.nodes; cells = g.cells; counters = counters; masks = g.masks; slots = slots }) flight (chains lens versions) writes reads
 
 -- after i steps from the state s
 pub record Gone (s : State) (part : List ℕ) (count start : ℕ) (write : Bool) (out₀ : List ℕ) (now : State) (out : List ℕ) (at i : ℕ) : Type 0 where
@@ -113,6 +79,13 @@ module _ (s : State) (part : List ℕ) (count start : ℕ) (write : Bool) (out�
       abbrev o : Stepped
       o = step_of (state_after s (steps_to part i)) (step_in part i)
 
+      -- the step taken here, done from here, is that step of the run
+      pub done_is : (x : Step) → Some x ≡ step_at part i → (r : Stepped) → r ≡ step_whole now x → r ≡ o
+      done_is x e r q = is_whole now x still_whole r q ∙ ap₂ step_of v.state (taken_is part i is_there x e)
+
+      pub never : {A : Type 0} → None ≡ step_at part i → A
+      never e = taken_never part i is_there e
+
       -- the lines up to this one fit where all do
       next_fits : start + length (lines_to s part (i + 1)) ≤ start + length (lines_to s part count)
       next_fits = omega (arith, lines_grow s part (i + 1) count (omega arith))
@@ -144,28 +117,3 @@ module _ (s : State) (part : List ℕ) (count start : ℕ) (write : Bool) (out�
               let a : out' ≡ out = rw q at w.1 in
               let b : out ≡ out₀ = rw q at v.output in
               rw q (a ∙ b)
-
--- ---- one step, from what its parts ensure
-
-module _ (g : Group) (counters : List Counters) (slots : List Slot) (flight lens versions writes reads : List ℕ) where
-  abbrev before : Group
-  before = record { nodes = g.nodes; cells = g.cells; counters = counters; masks = g.masks; slots = slots }
-
-  module _ (w : whole (state_in g counters slots flight lens versions writes reads) ≡ true) (i : ℕ) (slot : Slot) (a : slot ≡ at slots i no_slot) where
-    pub ready : i < 32 → Ready g.nodes g.cells slot writes
-    ready h = whole_ready before flight (chains lens versions) writes reads w i slot a (λ l. absurd (omega arith))
-
-    pub stepped :
-        (x : Step) → fields_sound x ≡ true → i ≡ cond (ltb x.slot 32) x.slot 0
-        → (n : ℕ) → n ≡ node_of (named x.kind) slot x.node
-        → (c : Counters) → c ≡ at counters n (zeroed 0)
-        → (t : Turn) (flight' lens' versions' writes' reads' : List ℕ)
-        → outcome t g.nodes g.cells g.masks flight' (chains lens' versions') writes' reads'
-        ≡ act (desk g.nodes g.cells g.masks slot c flight (chains lens versions) writes reads) x
-        → (slots' : List Slot) → slots' ≡ put slots i t.slot
-        → (counters' : List Counters) → counters' ≡ put counters n t.counters
-        → record { answer = t.answer; state = state_in g counters' slots' flight' lens' versions' writes' reads' }
-        ≡ step_of (state_in g counters slots flight lens versions writes reads) x
-    stepped x e p n b c d t flight' lens' versions' writes' reads' q slots' y counters' z =
-        is_whole (state_in g counters slots flight lens versions writes reads) x w _
-        (put_back_at before flight (chains lens versions) writes reads x (slot_used x e) i p slot a n b c d t flight' (chains lens' versions') writes' reads' q slots' y counters' z)

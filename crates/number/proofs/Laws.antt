@@ -1,11 +1,11 @@
 -- The proposal rule, once for every node number: what is proposed is what the paper says, and nothing else is.
 -- Assumes nothing.
 use mathlib.Core.Path.{◌≡◌, refl, ap}
-use mathlib.Core.Option.{Option, none, some}
 use Prim.Native.Nat.{ℕ, ◌+◌, ◌*◌, ◌/◌, ◌%◌, ◌≤◌, ◌<◌}
 use native.Mathlib.Omega.{arith}
 use lib.Dec.{ltb, leb}
-use borrow.Author.Tests.{ltb-true, ltb-false, leb-true, leb-false, lt-ltb, le-ltb}
+use borrow.Author.Tests.{ltb-true, ltb-false, leb-true, leb-false}
+use Rattle.std.specs.Prelude.{Option, None, Some}
 use Rattle.tables.proofs.Choice.{by_test}
 use Rattle.number.specs.Proposal.{top, up_to_top, next, proposal, IsProposal, number, nothing}
 
@@ -36,21 +36,7 @@ pub proposal_only : (n c : ℕ) (r : Option ℕ) → IsProposal n c r → r ≡ 
 proposal_only n c r p = go r (proposal n c) p (proposal_is n c)
   where
     go : (r s : Option ℕ) → IsProposal n c r → IsProposal n c s → r ≡ s
-    go none none (nothing f) (nothing g) = refl
-    go none (some k) (nothing f) (number a o l m) = absurd (f k a o l)
-    go (some k) none (number a o l m) (nothing g) = absurd (g k a o l)
-    go (some k) (some j) (number a o l m) (number a' o' l' m') = ap some (omega (arith, m j a' o', m' k a o))
-
--- ---- for code, at each of its ways out
-
-pub no_node : (n c : ℕ) → 8 ≤ n → proposal n c ≡ none
-unfolding proposal
-no_node n c h = rw (le-ltb n 8 h)
-
-pub near : (n c : ℕ) → n < 8 → c < c / 8 * 8 + n → proposal n c ≡ up_to_top (c / 8 * 8 + n)
-unfolding proposal next
-near n c h l = rw (lt-ltb n 8 h, lt-ltb c (c / 8 * 8 + n) l)
-
-pub far : (n c : ℕ) → n < 8 → c / 8 * 8 + n ≤ c → proposal n c ≡ up_to_top (c / 8 * 8 + n + 8)
-unfolding proposal next
-far n c h l = rw (lt-ltb n 8 h, le-ltb c (c / 8 * 8 + n) l)
+    go None None (nothing f) (nothing g) = refl
+    go None (Some k) (nothing f) (number a o l m) = absurd (f k a o l)
+    go (Some k) None (number a o l m) (nothing g) = absurd (g k a o l)
+    go (Some k) (Some j) (number a o l m) (number a' o' l' m') = ap Some (omega (arith, m j a' o', m' k a o))

@@ -9,7 +9,7 @@ use native.Mathlib.Omega.{arith}
 use borrow.Author.Tests.{leb-false, ltb-false}
 use Rattle.tables.proofs.Choice.{by_test}
 use Rattle.tables.proofs.Loop.{any_at}
-use Rattle.chain.specs.Chain.{Chains}
+use Rattle.chain.specs.declared.Chains.{Chains}
 use Rattle.counters.specs.declared.Counters.{Counters}
 use Rattle.group.specs.declared.Ask.{Ask}
 use Rattle.group.specs.declared.Slot.{Slot}

@@ -1,18 +1,19 @@
 -- Reading: rule A, serve; rule B, return.
 -- Assumes nothing.
-use Rattle.std.specs.Prelude.{Bool, true, cond, ◌&&◌, List, [], ◌∷◌, ℕ, ◌+◌, max, leb, ltb}
-use Rattle.std.proofs.Math.Option.{Option, none, some}
+use Rattle.std.specs.Prelude.{Bool, true, cond, ◌&&◌, List, [], ◌∷◌, ℕ, ◌+◌, max, leb, ltb, Option, None, Some}
 use Rattle.tables.specs.Table.{put}
 use Rattle.tables.specs.Pair.{pair}
 use Rattle.tables.specs.Loop.{any}
 use Rattle.counters.specs.Counters.{risen_to}
-use Rattle.chain.specs.Chain.{Chains, newest, latest}
+use Rattle.chain.specs.Chain.{newest, latest}
+use Rattle.chain.specs.declared.Chains.{Chains}
 use Rattle.chain.specs.declared.Version.{Version}
 use Rattle.counters.specs.declared.Counters.{Counters}
 use Rattle.group.specs.declared.Ask.{Ask}
 use Rattle.group.specs.declared.Note.{Note}
 use Rattle.group.specs.declared.Slot.{Slot}
-use Rattle.group.specs.declared.Snapshot.TheVariants.{Fixed}
+use Rattle.group.specs.declared.Refusal.{Refusal}
+use Rattle.group.specs.declared.Refusal.TheVariants.{WrongStage}
 use Rattle.group.specs.declared.Stage.TheVariants.{Open, Asking, Served, Aborted}
 use Rattle.group.specs.State.{number_at, unfinished, has, asking, served, ask_of, note_of, in_stage, at_stage}
 use Rattle.group.specs.declared.Turn.{Turn}
@@ -22,8 +23,8 @@ use Rattle.group.specs.declared.Answer.TheVariants as Answer
 
 -- ---- rule A, serve: the counters are the holder's
 
-abbrev pub serve_tests : Slot → List (Bool × ℕ)
-serve_tests slot = (in_stage slot asking, 19) ∷ []
+abbrev pub serve_tests : Slot → List (Bool × Refusal)
+serve_tests slot = (in_stage slot asking, WrongStage) ∷ []
 
 -- the read's s: exactly what is carried, where that is settled; else the larger of it and the holder's commit number
 unfoldable pub read_at : Ask → Counters → ℕ
@@ -37,8 +38,8 @@ unfoldable pub blocked : List ℕ → List ℕ → ℕ → ℕ → ℕ → Bool
 blocked flight writes n c s = any 32 (blocks flight writes n c s)
 
 abbrev pub value_of : Option Version → ℕ
-value_of none = 0
-value_of (some v) = v.value
+value_of None = 0
+value_of (Some v) = v.value
 
 -- the newest version numbered at or below s, with a mark stale if the chain's newest is above s
 unfoldable pub note_for : Chains → Ask → ℕ → Note
@@ -64,8 +65,8 @@ serve_turn slot holder flight writes chains =
 
 -- ---- rule B, return: the counters are the origin's
 
-abbrev pub return_tests : Slot → List (Bool × ℕ)
-return_tests slot = (in_stage slot served, 19) ∷ []
+abbrev pub return_tests : Slot → List (Bool × Refusal)
+return_tests slot = (in_stage slot served, WrongStage) ∷ []
 
 -- an update transaction with a stale read gets no value
 abbrev pub spoilt : Slot → Bool
@@ -76,7 +77,7 @@ return_turn slot origin =
     let v = note_of slot.stage in
     cond (spoilt slot) (turn Answer.Aborted (at_stage slot Aborted) (risen_to origin v.s))
     (turn (Value v.s v.value)
-    (record { stage = Open; origin = slot.origin; update = slot.update; snapshot = Fixed v.s })
+    (record { stage = Open; origin = slot.origin; update = slot.update; snapshot = Some v.s })
     (risen_to origin v.s))
 
 -- the cell joins the read set

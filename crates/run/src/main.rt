@@ -8,18 +8,10 @@ ghost use Rattle.replay.specs.Replay.{text_of};
 
 use std::io::{self, Read, Write};
 
-// One byte more than the longest file has, so that a longer input is refused for its bytes left over and not cut.
-fn file_space() -> [u8; 32965]
-    ensures { 32965 ≡ length result }
+fn space<const N: usize>() -> [u8; N]
+    ensures { N ≡ length result }
 {
-    [0; 32965]
-}
-
-// As long as the longest text.
-fn text_space() -> [u8; 122894]
-    ensures { 122894 ≡ length result }
-{
-    [0; 122894]
+    [0; N]
 }
 
 // What is printed is the text of all that the input holds, where that is known.
@@ -27,8 +19,10 @@ fn run<R: Read, W: Write>(input: &mut R, out: &mut W) -> io::Result<()>
     ensures { OnOk result (IfSome (R.remaining input.old)
         (λ xs. Appends (W.contents out.old) (W.contents out.new) (text_of (read_file xs)))) }
 {
-    let mut file = file_space();
-    let mut text = text_space();
+    // one byte more than the longest file has, so that a longer input is refused for its bytes left over and not cut
+    let mut file = space::<32965>();
+    // as long as the longest text
+    let mut text = space::<122894>();
     let n = show::read_full(input, &mut file)?;
     show::show(&file[..n], &mut text, out)?;
     Ok(())

@@ -4,6 +4,7 @@ use mathlib.Core.Bool.{Bool, true, false, cond}
 use Prim.Native.Nat.{◌≤◌}
 use native.Mathlib.Omega.{arith}
 use Rattle.kinds.specs.declared.Step.{Step}
+use Rattle.group.specs.declared.Refusal.TheVariants.{NotWhole}
 use Rattle.group.specs.declared.Answer.{Answer}
 use Rattle.group.specs.declared.Answer.TheVariants.{Done, Value, Wait, Yes, No, Committed, Aborted, Cut, Refused}
 use Rattle.group.specs.State.{State}
@@ -29,6 +30,6 @@ pub code_low : (s : State) (x : Step) → (said (step_of s x).answer).code ≤ 2
 unfolding step_of step_whole
 code_low s x = go (whole s)
   where
-    go : (w : Bool) → (said (cond w (step_whole s x) (record { answer = Refused 15; state = s })).answer).code ≤ 24
+    go : (w : Bool) → (said (cond w (step_whole s x) (record { answer = Refused NotWhole; state = s })).answer).code ≤ 24
     go true = low (act (desk_of s x) x).answer (answered (desk_of s x) x)
     go false = omega arith

@@ -1,11 +1,11 @@
 -- What the contracts of the step cite.
 -- Assumes nothing.
-use Rattle.std.specs.Prelude.{List, ℕ}
-use Rattle.chain.specs.Chain.{Chains}
 use Rattle.group.specs.State.{state_of}
-use Rattle.score.specs.declared.After.{After}
+use Rattle.group.specs.declared.Answer.{Answer}
+use Rattle.group.specs.declared.Group.{Group}
+use Rattle.group.specs.declared.Tables.{Tables}
 use Rattle.score.specs.Steps.{Stepped}
 
--- what a group and the tables after it come to
-abbrev pub reached : After → List ℕ → Chains → List ℕ → List ℕ → Stepped
-reached r flight chains writes reads = record { answer = r.answer; state = state_of r.group flight chains writes reads }
+-- what an answer, and the group and the tables after it, come to
+abbrev pub reached : Answer → Group → Tables → Stepped
+reached a g t = record { answer = a; state = state_of g t }

@@ -3,7 +3,9 @@
 use Rattle.std.specs.Prelude.{ℕ}
 use Rattle.tables.specs.Table.{put}
 use Rattle.kinds.specs.declared.Step.{Step}
-use Rattle.kinds.specs.Kinds.{Kind, begin, write, ask, serve, return, commit, prepare, decide, give_up, learn, apply, advance, abandon, named}
+use Rattle.kinds.specs.declared.Kind.{Kind}
+use Rattle.kinds.specs.declared.Kind.TheVariants.{Begin as begin, Write as write, Ask as ask, Serve as serve, Return as return, Commit as commit, Prepare as prepare, Decide as decide, GiveUp as give_up, Learn as learn, Apply as apply, Advance as advance, Abandon as abandon}
+use Rattle.kinds.specs.Kinds.{named}
 use Rattle.group.specs.declared.Slot.{Slot}
 use Rattle.group.specs.State.{State, ask_of, slot_at, counters_at}
 use Rattle.desk.specs.Desk.{Desk}

@@ -2,6 +2,7 @@
 -- Assumes nothing.
 use Rattle.std.specs.Prelude.{cond}
 use Rattle.kinds.specs.declared.Step.{Step}
+use Rattle.group.specs.declared.Refusal.TheVariants.{NotWhole}
 use Rattle.group.specs.declared.Answer.{Answer}
 use Rattle.group.specs.declared.Answer.TheVariants.{Refused}
 use Rattle.group.specs.State.{State}
@@ -19,4 +20,4 @@ step_whole s x = let o = act (desk_of s x) x in record { answer = o.answer; stat
 
 -- the step of any state
 unfoldable pub step_of : State → Step → Stepped
-step_of s x = cond (whole s) (step_whole s x) (record { answer = Refused 15; state = s })
+step_of s x = cond (whole s) (step_whole s x) (record { answer = Refused NotWhole; state = s })

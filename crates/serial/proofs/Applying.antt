@@ -4,11 +4,11 @@ use mathlib.Core.Path.{◌≡◌, refl, sym, ap, subst, subst₂, fun_ext, ◌�
 use mathlib.Core.Logic.{◌≢◌}
 use mathlib.Core.Bool.{true, false, ◌&&◌}
 use mathlib.Core.List.{List}
-use mathlib.Core.Option.{Option, some}
 use Prim.Native.Nat.{ℕ, ◌-◌, ◌≤◌, ◌<◌}
 use native.Mathlib.Omega.{arith}
 use native.Mathlib.Decide.{ℕ_discrete}
 use borrow.Author.Tests.{ltb-true, ltb-false}
+use Rattle.std.specs.Prelude.{Option, None, Some}
 use Rattle.tables.specs.Pair.{word}
 use Rattle.tables.proofs.Choice.{by_test, not_both}
 use Rattle.tables.proofs.Table.{put_size}
@@ -16,8 +16,9 @@ use Rattle.tables.proofs.Tests.{Passed}
 use Rattle.counters.specs.Counters.{committed_at}
 use Rattle.counters.specs.declared.Counters.{Counters}
 use Rattle.kinds.specs.declared.Step.{Step}
-use Rattle.kinds.specs.Kinds.{apply, advance}
-use Rattle.chain.specs.Chain.{Chains, len_at, version_at}
+use Rattle.kinds.specs.declared.Kind.TheVariants.{Apply as apply, Advance as advance}
+use Rattle.chain.specs.declared.Chains.{Chains}
+use Rattle.chain.specs.Chain.{len_at, version_at}
 use Rattle.chain.specs.declared.Version.{Version}
 use Rattle.group.specs.State.{State, holds, finished, tag_at, number_at, entered, unfinished, noted, has, slot_at, counters_at}
 use Rattle.settle.specs.Settle.{stored, applied, apply_chains, apply_flight}
@@ -32,7 +33,7 @@ use Rattle.serial.proofs.Applied.{AppliesAt, Grown, grown, same}
 use Rattle.serial.proofs.Views.{All, asks_of, entry, ground_of, links_of, nodes_of, notes_of, pends, same_slot, set_counters, set_slot, set_tables, slots_of}
 use Rattle.serial.proofs.Change.{any_counters, counters_away, counters_here, raised}
 use Rattle.serial.proofs.Entries.{slot_kept}
-use Rattle.serial.proofs.Stored.{Piece, Some, asis, more, stored_some}
+use Rattle.serial.proofs.Stored.{Piece, UpTo, asis, more, stored_some}
 
 module _ (first : ℕ → ℕ) (s : State) (H : List Handed) (a : All first s H) (x : Step) where
   abbrev n : ℕ
@@ -76,7 +77,7 @@ module _ (first : ℕ → ℕ) (s : State) (H : List Handed) (a : All first s H)
     fits : (i : ℕ) → i < 32 → noted s.writes t i - 1 < word
     fits i hi = omega (arith, (a.inv.deciding t ht).values i hi)
 
-    after : Some s.group.masks s.writes t n k s.chains a.sizes.lens256 a.sizes.versions2048 hn₈ room fits s.group.cells h
+    after : UpTo s.group.masks s.writes t n k s.chains a.sizes.lens256 a.sizes.versions2048 hn₈ room fits s.group.cells h
     after = stored_some s.group.masks s.writes t n k s.chains a.sizes.lens256 a.sizes.versions2048 hn₈ room fits s.group.cells a.sizes.cells_high
 
     -- each chain of a holder: with one version more, or as it was
@@ -147,8 +148,8 @@ module _ (first : ℕ → ℕ) (s : State) (H : List Handed) (a : All first s H)
           (apply_flight s.flight n r) (apply_chains s.group.cells s.group.masks s.flight s.chains s.writes n r) s.writes s.reads
 
       goes : (r : Option ℕ) → First s.flight n r → All first (after_apply r) H
-      goes mathlib.Core.Option.none x = elim x [ ]
-      goes (some t) (first_of ht e m) = slot_kept first s H x.slot (place_of s x) (committed_at (counters_at s (place_of s x)) (S.num t n)) (entered s.flight t n finished 0) (h hn t ht e least₁)
+      goes None x = elim x [ ]
+      goes (Some t) (first_of ht e m) = slot_kept first s H x.slot (place_of s x) (committed_at (counters_at s (place_of s x)) (S.num t n)) (entered s.flight t n finished 0) (h hn t ht e least₁)
           (subst (λ (j : ℕ). All first (set_tables (set_counters s j (committed_at (counters_at s j) (S.num t n))) (entered s.flight t n finished 0) (h hn t ht e least₁) s.writes s.reads) H) (sym p) (applies hn t ht e least₁))
         where
           least₁ : (i : ℕ) → i < 32 → 3 ≤ S.tag i n → S.tag i n ≤ 4 → S.num t n ≤ S.num i n

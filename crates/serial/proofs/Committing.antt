@@ -13,7 +13,7 @@ use Rattle.tables.proofs.Pair.{pair_high}
 use Rattle.tables.proofs.Loop.{any_at, any_where, Where, found}
 use Rattle.tables.proofs.Tests.{Passed}
 use Rattle.kinds.specs.declared.Step.{Step}
-use Rattle.kinds.specs.Kinds.{commit}
+use Rattle.kinds.specs.declared.Kind.TheVariants.{Commit as commit}
 use Rattle.group.specs.declared.Slot.{Slot}
 use Rattle.group.specs.declared.Stage.{Stage}
 use Rattle.group.specs.declared.Stage.TheVariants.{Voting, Committed}

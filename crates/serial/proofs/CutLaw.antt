@@ -4,17 +4,19 @@ use mathlib.Core.Path.{◌≡◌, refl, ap, ◌∙◌}
 use mathlib.Core.Bool.{false}
 use Prim.Native.Nat.{ℕ, max}
 use native.Mathlib.Nat.{max-zero}
+use Rattle.std.specs.Prelude.{Ok, Err}
 use Rattle.tables.proofs.Choice.{by_test, not_both}
 use Rattle.counters.specs.declared.Counters.{Counters}
 use Rattle.kinds.specs.declared.Step.{Step}
-use Rattle.kinds.specs.Kinds.{Kind, begin, write, ask, serve, return, commit, prepare, decide, give_up, learn, apply, advance, abandon}
+use Rattle.kinds.specs.declared.Kind.{Kind}
+use Rattle.kinds.specs.declared.Kind.TheVariants.{Begin as begin, Write as write, Ask as ask, Serve as serve, Return as return, Commit as commit, Prepare as prepare, Decide as decide, GiveUp as give_up, Learn as learn, Apply as apply, Advance as advance, Abandon as abandon}
 use Rattle.group.specs.declared.Slot.{Slot}
 use Rattle.group.specs.declared.Stage.{Stage}
 use Rattle.group.specs.declared.Stage.TheVariants.{Unused, Open, Asking, Served, Voting, Committed, Aborted}
 use Rattle.group.specs.State.{has, writer, ask_of, final_of, committed, in_stage}
 use Rattle.ask.specs.Ask.{ask_turn}
 use Rattle.read.specs.Read.{read_at, blocked, serve_turn, spoilt, return_turn}
-use Rattle.vote.specs.Vote.{Vote, votes_yes, votes_no, prepare_turn, vote_rise}
+use Rattle.vote.specs.Vote.{Vote, prepare_turn, vote_rise}
 use Rattle.decide.specs.Decide.{commit_turn, refused_by, decide_turn}
 use Rattle.learn.specs.Learn.{learn_turn}
 use Rattle.desk.specs.Desk.{Desk, with_counters}
@@ -26,8 +28,8 @@ with_counter q c = with_counters q (record { counter = c.counter; commit = q.cou
 
 -- a yes raises the counter to the proposal, a no leaves it
 voted : (slot : Slot) (c : Counters) (v : Vote) → max c.counter (vote_rise v) ≡ (prepare_turn slot c v).counters.counter
-voted slot c (votes_yes k) = refl
-voted slot c (votes_no r) = max-zero _
+voted slot c (Ok k) = refl
+voted slot c (Err r) = max-zero _
 
 -- only a committed transaction has a final number
 uncommitted : (slot : Slot) (st : Stage) → slot.stage ≡ st → in_stage slot committed ≡ false → final_of st ≡ 0

@@ -15,7 +15,7 @@ use Rattle.tables.proofs.Loop.{any_at, largest_reached, Reached, empty, reached}
 use Rattle.tables.proofs.Tests.{Passed}
 use Rattle.counters.specs.declared.Counters.{Counters}
 use Rattle.kinds.specs.declared.Step.{Step}
-use Rattle.kinds.specs.Kinds.{decide}
+use Rattle.kinds.specs.declared.Kind.TheVariants.{Decide as decide}
 use Rattle.group.specs.declared.Slot.{Slot}
 use Rattle.group.specs.declared.Stage.{Stage}
 use Rattle.group.specs.declared.Stage.TheVariants.{Committed, Aborted}

@@ -9,7 +9,7 @@ use Rattle.tables.specs.Pair.{word}
 use Rattle.tables.proofs.Table.{put_size}
 use Rattle.counters.specs.Counters.{counted_to}
 use Rattle.counters.specs.declared.Counters.{Counters}
-use Rattle.chain.specs.Chain.{Chains}
+use Rattle.chain.specs.declared.Chains.{Chains}
 use Rattle.group.specs.State.{State, tag_at, number_at, entered, slot_at, counters_at}
 use Rattle.serial.specs.Serial.{Handed}
 use Rattle.serial.proofs.Inv.{Ground, Nodes, Reading, Slots, Transaction}

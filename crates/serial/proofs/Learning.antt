@@ -13,7 +13,7 @@ use Rattle.tables.proofs.Choice.{by_test, and_true}
 use Rattle.tables.proofs.Tests.{Passed}
 use Rattle.counters.specs.Counters.{counted_to}
 use Rattle.kinds.specs.declared.Step.{Step}
-use Rattle.kinds.specs.Kinds.{learn}
+use Rattle.kinds.specs.declared.Kind.TheVariants.{Learn as learn}
 use Rattle.group.specs.State.{State, to_apply, finished, tag_at, number_at, entered, committed, in_stage, slot_at, counters_at}
 use Rattle.learn.specs.Learn.{learn_tests, learn_turn, learn_flight}
 use Rattle.score.specs.Place.{place_of, desk_of, put_back}

@@ -3,12 +3,12 @@
 use mathlib.Core.Path.{◌≡◌, ap, ◌∙◌}
 use mathlib.Core.Bool.{true}
 use mathlib.Core.List.{List}
-use mathlib.Core.Option.{Option, none, some}
 use Prim.Native.Nat.{ℕ, ◌≤◌, ◌<◌}
 use native.Mathlib.Omega.{arith}
 use native.Mathlib.Decide.{ℕ_discrete}
 use lib.Dec.{ltb}
 use borrow.Author.Tests.{ltb-true, ltb-false}
+use Rattle.std.specs.Prelude.{Option, None, Some}
 use Rattle.tables.proofs.Choice.{by_test}
 use Rattle.chain.specs.Chain.{size, newest}
 use Rattle.chain.specs.declared.Version.{Version}
@@ -45,8 +45,8 @@ module _ (first : ℕ → ℕ) (s : State) (H : List Handed) (a : All first s H)
   sized = size_in s.chains.lens c n (a.inv.chaining.some n c hn hc held).1
 
   found : (r : Option Version) → Newest s.chains.lens s.chains.versions c n k r → Latest G S c k (value_of r)
-  found none (no_version f) = absurd (omega (arith, f 0 (omega (arith, sized, a.inv.chaining.some n c hn hc held)), a.inv.chaining.zero n c hn hc held))
-  found (some v) (version i h l f) = elim (ℕ_discrete i 0) [
+  found None (no_version f) = absurd (omega (arith, f 0 (omega (arith, sized, a.inv.chaining.some n c hn hc held)), a.inv.chaining.zero n c hn hc held))
+  found (Some v) (version i h l f) = elim (ℕ_discrete i 0) [
     | yes e ↦ untouched (λ u hu g w. by_test (ltb k (S.fin u)) (λ z. ltb-true _ _ z) (λ z. absurd (above u g w (omega (arith, e)) (stands u hu g w (ltb-false _ _ z)) (ltb-false _ _ z))))
         (ap (K.vval c n) e ∙ (a.inv.chaining.zero n c hn hc held).1)
     | no e ↦ writer (a.inv.chaining.made n c i hn hc held (omega arith) (omega (arith, sized)))

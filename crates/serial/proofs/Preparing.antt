@@ -4,23 +4,22 @@ use mathlib.Core.Path.{◌≡◌, sym, ap, subst, ◌∙◌}
 use mathlib.Core.Logic.{◌≢◌}
 use mathlib.Core.Bool.{true}
 use mathlib.Core.List.{List}
-use mathlib.Core.Option.{some}
 use Prim.Native.Nat.{ℕ, ◌+◌, ◌-◌, ◌≤◌, ◌<◌}
 use native.Mathlib.Omega.{arith}
 use native.Mathlib.Decide.{ℕ_discrete}
 use borrow.Author.Tests.{eqb-true}
+use Rattle.std.specs.Prelude.{Some, None, Option, Ok, Err}
 use Rattle.tables.specs.Pair.{word}
 use Rattle.tables.proofs.Tests.{Passed}
 use Rattle.number.specs.Proposal.{IsProposal, number}
 use Rattle.counters.specs.Counters.{counted_to}
 use Rattle.kinds.specs.declared.Step.{Step}
-use Rattle.kinds.specs.Kinds.{prepare}
+use Rattle.kinds.specs.declared.Kind.TheVariants.{Prepare as prepare}
 use Rattle.chain.specs.Chain.{len_at, latest}
 use Rattle.chain.proofs.Laws.{size_in, latest_some}
-use Rattle.group.specs.declared.Snapshot.{Snapshot}
-use Rattle.group.specs.declared.Snapshot.TheVariants.{Unfixed, Fixed}
 use Rattle.group.specs.State.{State, holds, voted_no, voted_yes, tag_at, number_at, entered, snapshot_of, slot_at, counters_at}
-use Rattle.vote.specs.Vote.{prepare_tests, votes_yes, votes_no, vote, prepare_turn, prepare_flight, Vote}
+use Rattle.vote.specs.declared.Reason.{Reason}
+use Rattle.vote.specs.Vote.{prepare_tests, vote, prepare_turn, prepare_flight, Vote}
 use Rattle.desk.specs.Desk.{turned, with_flight}
 use Rattle.score.specs.Place.{place_of, desk_of, put_back}
 use Rattle.desk.specs.Acts.{needs, does, vote_of}
@@ -88,9 +87,9 @@ module _ (first : ℕ → ℕ) (s : State) (H : List Handed) (a : All first s H)
     -- ---- a yes vote
 
     abbrev Voted : ℕ → Type 0
-    Voted k = vote (slot_at s t) (counters_at s n) s.group.cells s.group.masks s.flight s.chains s.writes s.reads t n ≡ votes_yes k
+    Voted k = vote (slot_at s t) (counters_at s n) s.group.cells s.group.masks s.flight s.chains s.writes s.reads t n ≡ Ok k
 
-    prepares_yes : (k : ℕ) → Voted k → IsProposal n (counters_at s n).counter (some k)
+    prepares_yes : (k : ℕ) → Voted k → IsProposal n (counters_at s n).counter (Some k)
         → All first (set_tables (set_counters s n (counted_to (counters_at s n) k)) (entered s.flight t n voted_yes k) s.chains s.writes s.reads) H
     prepares_yes k v (number above own small least) = pends_now first s H a t n 3 k ht hn8 lw q own_one
       where
@@ -142,9 +141,9 @@ module _ (first : ℕ → ℕ) (s : State) (H : List Handed) (a : All first s H)
                       | no d₁ ↦ omega (arith, bound, newest₁, a.inv.chaining.up n i m (len_at s.chains.lens i n - 1) hn8 hi o (omega arith) (omega (arith, some₁)))
                     ]
 
-                within : (b₁ : Snapshot) → S.fin u ≤ snapshot_of b₁ → 0 < S.fin u → S.fin u < fixed_at b₁
-                within Unfixed l₁ pos = absurd (omega arith)
-                within (Fixed v₁) l₁ pos = omega arith
+                within : (b₁ : Option ℕ) → S.fin u ≤ snapshot_of b₁ → 0 < S.fin u → S.fin u < fixed_at b₁
+                within None l₁ pos = absurd (omega arith)
+                within (Some v₁) l₁ pos = omega arith
 
         own_one : Transaction G C' (with_entries S (tag_at f) (number_at f)) t
         own_one = record {
@@ -169,13 +168,13 @@ module _ (first : ℕ → ℕ) (s : State) (H : List Handed) (a : All first s H)
             again : Writes G S t → Writes G (with_entries S (tag_at f) (number_at f)) t
             again (writes i hi l w) = writes i hi l w
 
-    says_no : (i : ℕ) → All first (put_back s x (turned (with_flight (desk_of s x) (prepare_flight s.flight t n (votes_no i))) (prepare_turn (slot_at s t) (counters_at s (place_of s x)) (votes_no i))).desk) H
+    says_no : (i : Reason) → All first (put_back s x (turned (with_flight (desk_of s x) (prepare_flight s.flight t n (Err i))) (prepare_turn (slot_at s t) (counters_at s (place_of s x)) (Err i))).desk) H
     unfolding desk_of put_back
     says_no i = slot_kept first s H t (place_of s x) (counters_at s (place_of s x)) (entered s.flight t n voted_no 0) s.chains
         (subst (λ (z : State). All first (set_tables z (entered s.flight t n voted_no 0) s.chains s.writes s.reads) H) (sym (same_counters s (place_of s x))) prepares_no)
 
     says_yes : (k : ℕ) → place_of s x ≡ n → Voted k
-        → All first (put_back s x (turned (with_flight (desk_of s x) (prepare_flight s.flight t n (votes_yes k))) (prepare_turn (slot_at s t) (counters_at s (place_of s x)) (votes_yes k))).desk) H
+        → All first (put_back s x (turned (with_flight (desk_of s x) (prepare_flight s.flight t n (Ok k))) (prepare_turn (slot_at s t) (counters_at s (place_of s x)) (Ok k))).desk) H
     unfolding desk_of put_back
     says_yes k p v = slot_kept first s H t (place_of s x) (counted_to (counters_at s (place_of s x)) k) (entered s.flight t n voted_yes k) s.chains
         (subst (λ (m : ℕ). All first (set_tables (set_counters s m (counted_to (counters_at s m) k)) (entered s.flight t n voted_yes k) s.chains s.writes s.reads) H) (sym p)
@@ -183,8 +182,8 @@ module _ (first : ℕ → ℕ) (s : State) (H : List Handed) (a : All first s H)
 
     votes_either : place_of s x ≡ n → (v : Vote) → vote (slot_at s t) (counters_at s n) s.group.cells s.group.masks s.flight s.chains s.writes s.reads t n ≡ v
         → All first (put_back s x (turned (with_flight (desk_of s x) (prepare_flight s.flight t n v)) (prepare_turn (slot_at s t) (counters_at s (place_of s x)) v)).desk) H
-    votes_either p (votes_no i) v = says_no i
-    votes_either p (votes_yes k) v = says_yes k p v
+    votes_either p (Err i) v = says_no i
+    votes_either p (Ok k) v = says_yes k p v
 
   pub prepare_keeps : x.node < s.group.nodes → place_of s x ≡ x.node → Passed (needs (desk_of s x) x prepare) → All first (put_back s x (does (desk_of s x) x prepare).desk) H
   unfolding needs does desk_of prepare_tests

@@ -9,6 +9,7 @@ use Prim.Native.Nat.{ℕ, suc, ◌+◌, ◌≤◌, ◌<◌}
 use native.Mathlib.Omega.{arith}
 use native.Mathlib.Decide.{ℕ_discrete}
 use borrow.Author.Tests.{eqb-true, lt-ltb}
+use Rattle.std.specs.Prelude.{Some}
 use Rattle.tables.specs.Table.{put}
 use Rattle.tables.specs.Pair.{pair, word}
 use Rattle.tables.proofs.Choice.{by_test}
@@ -18,12 +19,11 @@ use Rattle.tables.proofs.Tests.{Passed}
 use Rattle.counters.specs.Counters.{risen_to}
 use Rattle.counters.specs.declared.Counters.{Counters}
 use Rattle.kinds.specs.declared.Step.{Step}
-use Rattle.kinds.specs.Kinds.{serve, return}
+use Rattle.kinds.specs.declared.Kind.TheVariants.{Serve as serve, Return as return}
 use Rattle.group.specs.declared.Slot.{Slot}
 use Rattle.group.specs.declared.Ask.{Ask}
 use Rattle.group.specs.declared.Note.{Note}
 use Rattle.group.specs.declared.Stage.{Stage}
-use Rattle.group.specs.declared.Snapshot.TheVariants.{Fixed}
 use Rattle.group.specs.declared.Stage.TheVariants.{Open, Asking, Served, Aborted}
 use Rattle.group.specs.declared.Turn.{Turn}
 use Rattle.group.specs.declared.Answer.TheVariants.{Done, Value, Wait}
@@ -189,7 +189,7 @@ module _ (first : ℕ → ℕ) (s : State) (H : List Handed) (a : All first s H)
     idle n hn = (a.inv.deciding t ht).early n hn (omega (arith, e))
 
     abbrev opened : Slot
-    opened = record { stage = Open; origin = (slot_at s t).origin; update = (slot_at s t).update; snapshot = Fixed note.s }
+    opened = record { stage = Open; origin = (slot_at s t).origin; update = (slot_at s t).update; snapshot = Some note.s }
 
     abbrev joined_to : List ℕ
     joined_to = put s.reads (pair 32 t note.cell) (note.value + 1)

@@ -3,11 +3,11 @@
 use mathlib.Core.Path.{◌≡◌, refl, sym, ap, subst, ◌∙◌}
 use mathlib.Core.Bool.{Bool, true, false, cond}
 use mathlib.Core.List.{List}
-use mathlib.Core.Option.{Option, none, some}
 use Prim.Native.Nat.{ℕ, ◌/◌, ◌%◌, ◌≤◌, ◌<◌}
 use native.Mathlib.Omega.{arith}
 use lib.Dec.{leb, ltb}
 use borrow.Author.Tests.{ltb-true, ltb-false, leb-true, eqb-true}
+use Rattle.std.specs.Prelude.{Option, None, Some}
 use Rattle.tables.specs.Table.{at}
 use Rattle.tables.specs.Pair.{pair, word}
 use Rattle.tables.specs.Tests.{refusal}
@@ -17,15 +17,19 @@ use Rattle.tables.proofs.Tests.{Passed, passed}
 use Rattle.counters.specs.Counters.{counted_to, committed_at}
 use Rattle.counters.specs.declared.Counters.{Counters}
 use Rattle.kinds.specs.declared.Step.{Step}
-use Rattle.kinds.specs.Kinds.{Kind, begin, write, ask, serve, return, commit, prepare, decide, give_up, learn, apply, advance, abandon, named}
+use Rattle.kinds.specs.declared.Kind.{Kind}
+use Rattle.kinds.specs.declared.Kind.TheVariants.{Begin as begin, Write as write, Ask as ask, Serve as serve, Return as return, Commit as commit, Prepare as prepare, Decide as decide, GiveUp as give_up, Learn as learn, Apply as apply, Advance as advance, Abandon as abandon}
+use Rattle.kinds.specs.Kinds.{named}
 use Rattle.number.specs.Proposal.{proposal, IsProposal, number}
 use Rattle.number.proofs.Laws.{proposal_is}
-use Rattle.chain.specs.Chain.{Chains}
+use Rattle.chain.specs.declared.Chains.{Chains}
+use Rattle.group.specs.declared.Refusal.{Refusal}
 use Rattle.group.specs.declared.Slot.{Slot}
 use Rattle.group.specs.declared.Stage.TheVariants.{Voting, Committed, Aborted}
 use Rattle.group.specs.declared.Answer.TheVariants as Answer
 use Rattle.group.specs.Answer.{turn}
 use Rattle.group.specs.State.{State, voted_no, voted_yes, to_apply, finished, entered, writer, involved, committed, stage_number, final_of, in_stage, at_stage, slot_at, counters_at}
+use Rattle.vote.specs.declared.Reason.{Reason}
 use Rattle.vote.specs.Vote.{prepare_tests, reason, vote_for, vote, prepare_turn, prepare_flight}
 use Rattle.decide.specs.Decide.{commit_turn, sent_to, commit_flight, refused_by, decide_tests, final, decide_turn}
 use Rattle.learn.specs.Learn.{learn_tests, learn_turn, learn_flight}
@@ -156,13 +160,13 @@ module _ (first : ℕ → ℕ) (s : State) (H : List Handed) (a : All first s H)
     hn8 : n < 8
     hn8 = omega (arith, z.nodes_high)
 
-    votes_shape : x.slot < 32 → S.tag t n ≡ 1 → (r p : Option ℕ) → IsProposal n (counters_at s m).counter p
+    votes_shape : x.slot < 32 → S.tag t n ≡ 1 → (r : Option Reason) (p : Option ℕ) → IsProposal n (counters_at s m).counter p
         → Shape (put_back s x (turned (with_flight (desk_of s x) (prepare_flight s.flight t n (vote_for r p))) (prepare_turn (slot_at s t) (counters_at s m) (vote_for r p))).desk)
     unfolding desk_of put_back
-    votes_shape ht e none none q = entered_shape (counters_at s m) t n voted_no 0 s.chains ht hn8 (omega arith) (omega (arith, e)) (omega arith) (λ l. refl) (λ l. refl)
-    votes_shape ht e none (some k) (number above own small fewest) =
+    votes_shape ht e None None q = entered_shape (counters_at s m) t n voted_no 0 s.chains ht hn8 (omega arith) (omega (arith, e)) (omega arith) (λ l. refl) (λ l. refl)
+    votes_shape ht e None (Some k) (number above own small fewest) =
         entered_shape (counted_to (counters_at s m) k) t n voted_yes k s.chains ht hn8 (omega arith) (omega (arith, e)) (omega arith) (λ l. absurd (omega arith)) (λ l. absurd (omega arith))
-    votes_shape ht e (some i) p q = entered_shape (counters_at s m) t n voted_no 0 s.chains ht hn8 (omega arith) (omega (arith, e)) (omega arith) (λ l. refl) (λ l. refl)
+    votes_shape ht e (Some i) p q = entered_shape (counters_at s m) t n voted_no 0 s.chains ht hn8 (omega arith) (omega (arith, e)) (omega arith) (λ l. refl) (λ l. refl)
 
     prepare_shape : x.slot < 32 → place_of s x ≡ n → Passed (needs (desk_of s x) x prepare) → Shape (put_back s x (does (desk_of s x) x prepare).desk)
     unfolding needs does desk_of prepare_tests vote
@@ -185,8 +189,8 @@ module _ (first : ℕ → ℕ) (s : State) (H : List Handed) (a : All first s H)
         goes : (r : Option ℕ) → First s.flight n r
             → Shape (set_tables (set_slot (set_counters s m (committed_at (counters_at s m) (applied s.flight n r))) t (slot_at s t))
             (apply_flight s.flight n r) (apply_chains s.group.cells s.group.masks s.flight s.chains s.writes n r) s.writes s.reads)
-        goes none x = elim x [ ]
-        goes (some u) (first_of hu d l) = entered_shape _ u n finished 0 _ hu hn8 (omega arith) (omega (arith, d)) (omega arith) (λ l. refl) (λ l. refl)
+        goes None x = elim x [ ]
+        goes (Some u) (first_of hu d l) = entered_shape _ u n finished 0 _ hu hn8 (omega arith) (omega (arith, d)) (omega arith) (λ l. refl) (λ l. refl)
 
   -- ---- counters alone
 
@@ -201,7 +205,7 @@ module _ (first : ℕ → ℕ) (s : State) (H : List Handed) (a : All first s H)
   unfolding cuts desk_of put_back
   cut_shape k = counted_shape _
 
-  refused_shape : (c : ℕ) → Shape (put_back s x (refuses (desk_of s x) c).desk)
+  refused_shape : (c : Refusal) → Shape (put_back s x (refuses (desk_of s x) c).desk)
   unfolding desk_of put_back
   refused_shape c = counted_shape _
 
@@ -222,11 +226,11 @@ module _ (first : ℕ → ℕ) (s : State) (H : List Handed) (a : All first s H)
   kinds_shape advance e f o = advance_shape
   kinds_shape abandon e f o = abandon_shape (f.slot refl) o
 
-  judged_shape : (r : Option ℕ) → refusal (field_tests s.group.nodes s.group.cells x (needs (desk_of s x) x (named x.kind))) ≡ r
+  judged_shape : (r : Option Refusal) → refusal (field_tests s.group.nodes s.group.cells x (needs (desk_of s x) x (named x.kind))) ≡ r
       → Shape (put_back s x (judge r (desk_of s x) (cond (leb 128 x.kind) (cuts (desk_of s x) x (named x.kind)) (does (desk_of s x) x (named x.kind)))).desk)
-  judged_shape none e = let o = passed _ e in
+  judged_shape None e = let o = passed _ e in
       by_test (leb 128 x.kind) (λ d. rw d (cut_shape (named x.kind))) (λ d. rw d (kinds_shape (named x.kind) refl (fields_in s x (named x.kind) (needs (desk_of s x) x (named x.kind)) refl o) o.1.1.1))
-  judged_shape (some c) e = refused_shape c
+  judged_shape (Some c) e = refused_shape c
 
   pub step_shape : Shape (step_whole s x).state
   unfolding step_whole act desk_of

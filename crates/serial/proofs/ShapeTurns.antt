@@ -4,12 +4,12 @@ use mathlib.Core.Path.{◌≡◌, refl, sym, ap, subst, subst₂, ◌∙◌}
 use mathlib.Core.Logic.{◌≢◌}
 use mathlib.Core.Bool.{Bool, true, false, ◌||◌}
 use mathlib.Core.List.{List}
-use mathlib.Core.Option.{Option, none, some}
 use Prim.Native.Nat.{ℕ, ◌+◌, ◌-◌, ◌≤◌, ◌<◌}
 use native.Mathlib.Nat.{mod-lt}
 use native.Mathlib.Omega.{arith}
 use native.Mathlib.Decide.{ℕ_discrete}
 use borrow.Author.Tests.{ltb-true, eqb-true}
+use Rattle.std.specs.Prelude.{Option, None, Some}
 use Rattle.tables.specs.Table.{put}
 use Rattle.tables.specs.Pair.{pair, word}
 use Rattle.tables.proofs.Choice.{by_test, and_true}
@@ -20,14 +20,13 @@ use Rattle.tables.proofs.Tests.{Passed}
 use Rattle.counters.specs.Counters.{risen_to}
 use Rattle.counters.specs.declared.Counters.{Counters}
 use Rattle.kinds.specs.declared.Step.{Step}
-use Rattle.kinds.specs.Kinds.{begin, write, ask, serve, return}
+use Rattle.kinds.specs.declared.Kind.TheVariants.{Begin as begin, Write as write, Ask as ask, Serve as serve, Return as return}
 use Rattle.chain.specs.Chain.{newest, version_at}
 use Rattle.chain.specs.declared.Version.{Version}
 use Rattle.chain.proofs.Laws.{Newest, no_version, version, newest_is}
 use Rattle.group.specs.declared.Slot.{Slot}
 use Rattle.group.specs.declared.Note.{Note}
 use Rattle.group.specs.declared.Stage.{Stage}
-use Rattle.group.specs.declared.Snapshot.TheVariants.{Fixed}
 use Rattle.group.specs.declared.Stage.TheVariants.{Open, Asking, Served, Aborted}
 use Rattle.group.specs.declared.Turn.{Turn}
 use Rattle.group.specs.declared.Answer.TheVariants.{Done, Value, Wait}
@@ -54,8 +53,8 @@ unfolding version_at
 looked_low lens versions c n s = go _ (newest_is lens versions c n s)
   where
     go : (r : Option Version) → Newest lens versions c n s r → value_of r < word
-    go none (no_version f) = omega arith
-    go (some v) (version i h l f) = mod-lt _ (omega arith)
+    go None (no_version f) = omega arith
+    go (Some v) (version i h l f) = mod-lt _ (omega arith)
 
 -- an involved node holds a cell that was read or written
 pub involved_touches : (s : State) (t n : ℕ) → s.group.cells ≤ 32 → involved s.group.cells s.group.masks s.writes s.reads t n ≡ true → Touches (ground_of s (λ c. 0)) (slots_of s) t n
@@ -214,7 +213,7 @@ module _ (first : ℕ → ℕ) (s : State) (H : List Handed) (a : All first s H)
         given = (a.inv.reading t ht).served e
 
         y : Slot
-        y = record { stage = Open; origin = (slot_at s t).origin; update = (slot_at s t).update; snapshot = Fixed v.s }
+        y = record { stage = Open; origin = (slot_at s t).origin; update = (slot_at s t).update; snapshot = Some v.s }
 
         r : List ℕ
         r = put s.reads (pair 32 t v.cell) (v.value + 1)

@@ -8,6 +8,7 @@ use Prim.Native.Nat.{ℕ, suc, ◌+◌, ◌-◌, ◌≤◌, ◌<◌}
 use native.Mathlib.Omega.{arith}
 use native.Mathlib.Decide.{ℕ_discrete}
 use borrow.Author.Tests.{leb-true, eqb-true}
+use Rattle.std.specs.Prelude.{None, Option, Some}
 use Rattle.tables.specs.Table.{at, put}
 use Rattle.tables.specs.Pair.{pair, word}
 use Rattle.tables.proofs.Choice.{by_test, and_true}
@@ -15,11 +16,9 @@ use Rattle.tables.proofs.Table.{put_same, put_other}
 use Rattle.tables.proofs.Pair.{pair_inj}
 use Rattle.tables.proofs.Tests.{Passed}
 use Rattle.kinds.specs.declared.Step.{Step}
-use Rattle.kinds.specs.Kinds.{begin, write, ask, give_up, abandon}
+use Rattle.kinds.specs.declared.Kind.TheVariants.{Begin as begin, Write as write, Ask as ask, GiveUp as give_up, Abandon as abandon}
 use Rattle.group.specs.declared.Slot.{Slot}
 use Rattle.group.specs.declared.Stage.{Stage}
-use Rattle.group.specs.declared.Snapshot.{Snapshot}
-use Rattle.group.specs.declared.Snapshot.TheVariants.{Unfixed, Fixed}
 use Rattle.group.specs.declared.Stage.TheVariants.{Asking, Aborted}
 use Rattle.group.specs.State.{State, holds, noted, has, stage_number, final_of, at_stage, slot_at, counters_at}
 use Rattle.counters.specs.declared.Counters.{Counters}
@@ -193,11 +192,11 @@ module _ (first : ℕ → ℕ) (s : State) (H : List Handed) (a : All first s H)
       held : has s.writes t x.cell ≡ false → holds s.group.masks x.node x.cell ≡ true
       held e = (and_true _ _ (rw e at o.1.0)).0
 
-      asked : (p : Snapshot) → fixed_at p ≤ word → k.commit < word → has s.writes t x.cell ≡ false
+      asked : (p : Option ℕ) → fixed_at p ≤ word → k.commit < word → has s.writes t x.cell ≡ false
           → ((ask_for p k.commit x.node x.cell).node < 8) × ((ask_for p k.commit x.node x.cell).cell < 32) × (holds s.group.masks (ask_for p k.commit x.node x.cell).node (ask_for p k.commit x.node x.cell).cell ≡ true) × ((ask_for p k.commit x.node x.cell).carried < word)
-      asked Unfixed b l e = (omega (arith, a.sizes.nodes_high), omega (arith, a.sizes.cells_high), held e, l)
-      asked (Fixed z) b l e = (omega (arith, a.sizes.nodes_high), omega (arith, a.sizes.cells_high), held e, omega arith)
+      asked None b l e = (omega (arith, a.sizes.nodes_high), omega (arith, a.sizes.cells_high), held e, l)
+      asked (Some z) b l e = (omega (arith, a.sizes.nodes_high), omega (arith, a.sizes.cells_high), held e, omega arith)
 
-      exact : (p : Snapshot) → S'.snap t ≡ fixed_at p → 0 < S'.snap t → ((ask_for p k.commit x.node x.cell).exact ≡ true) × (S'.snap t ≡ suc (ask_for p k.commit x.node x.cell).carried)
-      exact Unfixed e l = absurd (omega arith)
-      exact (Fixed z) e l = (refl, e)
+      exact : (p : Option ℕ) → S'.snap t ≡ fixed_at p → 0 < S'.snap t → ((ask_for p k.commit x.node x.cell).exact ≡ true) × (S'.snap t ≡ suc (ask_for p k.commit x.node x.cell).carried)
+      exact None e l = absurd (omega arith)
+      exact (Some z) e l = (refl, e)

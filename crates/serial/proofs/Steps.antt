@@ -2,39 +2,42 @@
 -- Assumes nothing.
 use mathlib.Core.Path.{◌≡◌, refl, sym, ap, subst, ◌∙◌}
 use mathlib.Core.Logic.{◌≢◌}
-use mathlib.Core.Bool.{Bool, true, false, cond, not, ◌||◌}
+use mathlib.Core.Bool.{Bool, true, false, cond}
 use mathlib.Core.List.Memᴰ
 use mathlib.Core.List.{List, [], ◌∷◌, ◌++◌}
-use mathlib.Core.Option.{Option, none, some}
 use Prim.Native.Nat.{ℕ, ◌%◌, ◌≤◌, ◌<◌}
 use native.Mathlib.Omega.{arith}
 use lib.Dec.{leb, ltb, eqb}
 use borrow.Author.Tests.{ltb-true, ltb-false, eqb-true, ne_eqb}
+use Rattle.std.specs.Prelude.{Option, None, Some}
 use Rattle.tables.specs.Table.{at}
 use Rattle.tables.specs.Pair.{word}
 use Rattle.tables.specs.Tests.{refusal}
-use Rattle.tables.proofs.Choice.{by_test, and_true, not_both}
+use Rattle.tables.proofs.Choice.{by_test}
 use Rattle.tables.proofs.Tests.{Passed, passed}
 use Rattle.counters.specs.Counters.{counted_to}
 use Rattle.counters.specs.declared.Counters.{Counters}
 use Rattle.kinds.specs.declared.Step.{Step}
-use Rattle.kinds.specs.declared.Fields.{Fields}
-use Rattle.kinds.specs.Kinds.{Kind, begin, write, ask, serve, return, commit, prepare, decide, give_up, learn, apply, advance, abandon, named, uses_of}
-use Rattle.kinds.proofs.Laws.{uses_by, uses_named}
+use Rattle.kinds.specs.declared.Kind.{Kind}
+use Rattle.kinds.specs.declared.Kind.TheVariants.{Begin as begin, Write as write, Ask as ask, Serve as serve, Return as return, Commit as commit, Prepare as prepare, Decide as decide, GiveUp as give_up, Learn as learn, Apply as apply, Advance as advance, Abandon as abandon}
+use Rattle.kinds.specs.Kinds.{named}
 use Rattle.number.specs.Proposal.{proposal, IsProposal, number}
 use Rattle.number.proofs.Laws.{proposal_is}
+use Rattle.group.specs.declared.Refusal.{Refusal}
 use Rattle.group.specs.declared.Answer.{Answer}
 use Rattle.group.specs.declared.Answer.TheVariants.{Value, Aborted}
-use Rattle.group.specs.Answer.{said}
+use Rattle.group.specs.Answer.{said, code}
 use Rattle.group.specs.State.{State, note_of, slot_at, counters_at}
 use Rattle.whole.specs.Whole.{whole}
 use Rattle.read.specs.Read.{spoilt, return_turn}
+use Rattle.vote.specs.declared.Reason.{Reason}
 use Rattle.vote.specs.Vote.{reason, vote_for, vote, vote_rise}
 use Rattle.learn.specs.Learn.{learn_tests}
 use Rattle.desk.specs.Desk.{Outcome}
 use Rattle.score.specs.Place.{node_of, place_of, desk_of, put_back}
 use Rattle.desk.specs.Acts.{field_tests, needs, does, rise, cuts, refuses, judge, act}
 use Rattle.score.specs.Steps.{step_whole, step_of}
+use Rattle.desk.proofs.Fields.{Fields, fields_passed}
 use Rattle.desk.proofs.Codes.{Accepted, refused_coded}
 use Rattle.serial.specs.Serial.{Handed, Run, handed_by, next, run_of, Steps32}
 use Rattle.serial.proofs.Views.{slots_of, All, set_counters, set_slot, same_counters, same_slot}
@@ -94,24 +97,11 @@ fewer first s h H a = record {
 
 -- ---- the fields that a kind uses
 
-pub record FieldsIn (s : State) (x : Step) (k : Kind) : Type 0 where
-  pub node : (uses_by k).node ≡ true → x.node < s.group.nodes
-  pub slot : (uses_by k).slot ≡ true → x.slot < 32
-  pub cell : (uses_by k).cell ≡ true → x.cell < s.group.cells
+abbrev pub FieldsIn : State → Step → Kind → Type 0
+FieldsIn s x k = Fields s.group.nodes s.group.cells x k
 
-used : (b c : Bool) → (not b || c) ≡ true → b ≡ true → c ≡ true
-used true c e d = e
-used false c e d = absurd (not_both d refl)
-
-pub fields_in : (s : State) (x : Step) (k : Kind) (ts : List (Bool × ℕ)) → named x.kind ≡ k → Passed (field_tests s.group.nodes s.group.cells x ts) → FieldsIn s x k
-fields_in s x k ts e o =
-    let u : uses_of x.kind ≡ uses_by k = uses_named x.kind o.0 ∙ ap uses_by e in
-    let b = and_true _ _ o.1.1.0 in
-    record {
-      node = λ d. ltb-true _ _ (used _ _ o.1.0 (ap (λ (f : Fields). f.node) u ∙ d));
-      slot = λ d. ltb-true _ _ (used _ _ b.0 (ap (λ (f : Fields). f.slot) u ∙ d));
-      cell = λ d. ltb-true _ _ (used _ _ b.1 (ap (λ (f : Fields). f.cell) u ∙ d));
-    }
+pub fields_in : (s : State) (x : Step) (k : Kind) (ts : List (Bool × Refusal)) → named x.kind ≡ k → Passed (field_tests s.group.nodes s.group.cells x ts) → FieldsIn s x k
+fields_in s x k ts e o = fields_passed s.group.nodes s.group.cells x k ts e o
 
 -- the step's node, by its kind
 pub at_kind : (s : State) (x : Step) (k : Kind) → named x.kind ≡ k → place_of s x ≡ node_of k (slot_at s x.slot) x.node
@@ -169,10 +159,10 @@ module _ (first : ℕ → ℕ) (s : State) (H : List Handed) (a : All first s H)
   -- ---- a cut step
 
   -- what a yes vote raises the counter to is a number
-  votes_low : (c : Counters) (n : ℕ) (r p : Option ℕ) → IsProposal n c.counter p → vote_rise (vote_for r p) < word
-  votes_low c n none none q = omega arith
-  votes_low c n none (some k) (number b o l m) = omega arith
-  votes_low c n (some i) p q = omega arith
+  votes_low : (c : Counters) (n : ℕ) (r : Option Reason) (p : Option ℕ) → IsProposal n c.counter p → vote_rise (vote_for r p) < word
+  votes_low c n None None q = omega arith
+  votes_low c n None (Some k) (number b o l m) = omega arith
+  votes_low c n (Some i) p q = omega arith
 
   rises_low : (k : Kind) → named x.kind ≡ k → FieldsIn s x k → Passed (needs (desk_of s x) x k) → rise (desk_of s x) x k < word
   unfolding rise needs desk_of vote learn_tests
@@ -198,15 +188,15 @@ module _ (first : ℕ → ℕ) (s : State) (H : List Handed) (a : All first s H)
   -- ---- every step of a state
 
   -- a code of 16 or more is not that of a value
-  refused_same : (c : ℕ) → 16 ≤ c → After (refuses (desk_of s x) c)
+  refused_same : (c : Refusal) → 16 ≤ code c → After (refuses (desk_of s x) c)
   unfolding desk_of put_back
-  refused_same c h = rw (ne_eqb c 1 (λ z. omega arith)) (subst (λ (z : State). All first (set_slot z x.slot (slot_at s x.slot)) H) (sym (same_counters s (place_of s x))) (subst (λ (z : State). All first z H) (sym (same_slot s x.slot)) a))
+  refused_same c h = rw (ne_eqb (code c) 1 (λ z. omega arith)) (subst (λ (z : State). All first (set_slot z x.slot (slot_at s x.slot)) H) (sym (same_counters s (place_of s x))) (subst (λ (z : State). All first z H) (sym (same_slot s x.slot)) a))
 
-  judged : (r : Option ℕ) → Accepted r → refusal (field_tests s.group.nodes s.group.cells x (needs (desk_of s x) x (named x.kind))) ≡ r
+  judged : (r : Option Refusal) → Accepted r → refusal (field_tests s.group.nodes s.group.cells x (needs (desk_of s x) x (named x.kind))) ≡ r
       → After (judge r (desk_of s x) (cond (leb 128 x.kind) (cuts (desk_of s x) x (named x.kind)) (does (desk_of s x) x (named x.kind))))
-  judged none h e = let o = passed _ e in let f = fields_in s x (named x.kind) (needs (desk_of s x) x (named x.kind)) refl o in
+  judged None h e = let o = passed _ e in let f = fields_in s x (named x.kind) (needs (desk_of s x) x (named x.kind)) refl o in
       by_test (leb 128 x.kind) (λ b. rw b (cuts_keep (named x.kind) refl f o.1.1.1)) (λ b. rw b (kinds_keep (named x.kind) refl f o.1.1.1))
-  judged (some c) h e = refused_same c h.0
+  judged (Some c) h e = refused_same c h.0
 
   pub whole_step : All first (step_whole s x).state (handed_by s x (step_whole s x).answer ++ H)
   unfolding step_whole act desk_of

@@ -13,7 +13,8 @@ use Rattle.tables.specs.Pair.{pair, word}
 use Rattle.tables.specs.Loop.{turns}
 use Rattle.tables.proofs.Choice.{by_test, not_both, and_true}
 use Rattle.tables.proofs.Pair.{pair_inj}
-use Rattle.chain.specs.Chain.{Chains, len_at, version_at, added}
+use Rattle.chain.specs.declared.Chains.{Chains}
+use Rattle.chain.specs.Chain.{len_at, version_at, added}
 use Rattle.chain.proofs.Laws.{added_lens, added_versions, added_len, added_len_other, added_version, added_version_other}
 use Rattle.group.specs.State.{holds, noted, has}
 use Rattle.settle.specs.Settle.{stored}
@@ -34,7 +35,8 @@ module _ (masks writes : List ℕ) (t n k : ℕ) (h : Chains) (ls : length h.len
   abbrev turn : ℕ → Chains → Chains
   turn c z = cond (adds c) (added z c n k (noted writes t c - 1)) z
 
-  pub record Some (j : ℕ) (z : Chains) : Type 0 where
+  -- the versions of the cells below j are added, nothing else is
+  pub record UpTo (j : ℕ) (z : Chains) : Type 0 where
     pub lens256 : length z.lens ≡ 256
     pub versions2048 : length z.versions ≡ 2048
     pub here : (c : ℕ) → c < 32 → c < j → len_at h.lens c n ≤ 8 → Piece h z c n k (noted writes t c - 1) (adds c)
@@ -44,7 +46,7 @@ module _ (masks writes : List ℕ) (t n k : ℕ) (h : Chains) (ls : length h.len
   roomy : (c : ℕ) → c < 32 → adds c ≡ true → len_at h.lens c n < 8
   roomy c hc e = let r = and_true (holds masks n c) (has writes t c) e in omega (arith, room c hc r.0 r.1)
 
-  module _ (j : ℕ) (z : Chains) (hj : j < 32) (e : adds j ≡ true) (q : Some j z) where
+  module _ (j : ℕ) (z : Chains) (hj : j < 32) (e : adds j ≡ true) (q : UpTo j z) where
     abbrev v : ℕ
     v = noted writes t j - 1
 
@@ -89,7 +91,7 @@ module _ (masks writes : List ℕ) (t n k : ℕ) (h : Chains) (ls : length h.len
         (λ i b. other_version j n i hn (omega (arith, roomy j hj e)) (λ y. omega (arith, len_was, pair_inj 8 (pair 8 j n) i (pair 8 j n) (len_at z.lens j n) (omega (arith, roomy j hj e)) r y)) ∙ old_was i b)
 
     -- a chain that was as it was gets one version more
-    grows : Some (suc j) z'
+    grows : UpTo (suc j) z'
     grows = record {
       lens256 = added_lens z j n k v q.lens256 q.versions2048 r;
       versions2048 = added_versions z j n k v q.lens256 q.versions2048 r;
@@ -101,7 +103,7 @@ module _ (masks writes : List ℕ) (t n k : ℕ) (h : Chains) (ls : length h.len
     }
 
   -- no version is added to the chain of cell j
-  skips : (j : ℕ) (z : Chains) → j < 32 → adds j ≡ false → Some j z → Some (suc j) z
+  skips : (j : ℕ) (z : Chains) → j < 32 → adds j ≡ false → UpTo j z → UpTo (suc j) z
   skips j z hj e q = record {
     lens256 = q.lens256;
     versions2048 = q.versions2048;
@@ -115,12 +117,12 @@ module _ (masks writes : List ℕ) (t n k : ℕ) (h : Chains) (ls : length h.len
       lone : Piece h z j n k 0 false → Piece h z j n k (noted writes t j - 1) false
       lone (asis l f) = asis l f
 
-  all : (j : ℕ) → j ≤ 32 → Some j (turns j turn h)
+  all : (j : ℕ) → j ≤ 32 → UpTo j (turns j turn h)
   unfolding turns
   all zero l = record { lens256 = ls; versions2048 = vs; here = λ c hc b. absurd (omega arith); away = λ c m hc hm s d. asis refl (λ i b. refl) }
   all (suc j) l = let q = all j (omega arith) in
       by_test (adds j) (λ e. rw e (grows j (turns j turn h) (omega arith) e q)) (λ e. rw e (skips j (turns j turn h) (omega arith) e q))
 
-  pub stored_some : (cells : ℕ) → cells ≤ 32 → Some cells (stored cells masks h writes t n k)
+  pub stored_some : (cells : ℕ) → cells ≤ 32 → UpTo cells (stored cells masks h writes t n k)
   unfolding stored
   stored_some cells l = all cells l

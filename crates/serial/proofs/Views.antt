@@ -7,28 +7,28 @@ use Prim.Native.Nat.{ℕ, suc, ◌/◌, ◌%◌, ◌≤◌, ◌<◌}
 use native.Mathlib.Omega.{arith}
 use native.Mathlib.Decide.{ℕ_discrete}
 use lib.ListN.{length}
+use borrow.Author.Tests.{le-leb}
+use Rattle.std.specs.Prelude.{None, Option, Some}
 use Rattle.tables.specs.Table.{at, put}
 use Rattle.tables.specs.Pair.{pair, word}
 use Rattle.tables.proofs.Table.{put_same, put_other, put_at}
 use Rattle.tables.proofs.Pair.{pair_high, pair_low, pair_inj}
 use Rattle.counters.specs.Counters.{zeroed}
 use Rattle.counters.specs.declared.Counters.{Counters}
-use Rattle.chain.specs.Chain.{Chains, len_at, version_at}
-use Rattle.group.specs.declared.Snapshot.{Snapshot}
-use Rattle.group.specs.declared.Snapshot.TheVariants.{Unfixed, Fixed}
+use Rattle.chain.specs.declared.Chains.{Chains}
+use Rattle.chain.specs.Chain.{len_at, version_at}
 use Rattle.group.specs.declared.Slot.{Slot}
 use Rattle.group.specs.declared.Ask.{Ask}
 use Rattle.group.specs.declared.Note.{Note}
 use Rattle.group.specs.State.{State, holds, tag_at, number_at, entered, noted, stage_number, ask_of, note_of, final_of, no_slot, slot_at, counters_at, unfinished}
 use Rattle.serial.specs.Serial.{Handed}
-use borrow.Author.Tests.{le-leb}
 use Rattle.serial.proofs.Inv.{Ground, Inv, Links, Nodes, Slots}
 use Rattle.serial.proofs.Joins.{Entry, away, here}
 
 -- a snapshot as a number: 0 for none, else one more
-abbrev pub fixed_at : Snapshot → ℕ
-fixed_at Unfixed = 0
-fixed_at (Fixed s) = suc s
+abbrev pub fixed_at : Option ℕ → ℕ
+fixed_at None = 0
+fixed_at (Some s) = suc s
 
 abbrev pub ground_of : State → (ℕ → ℕ) → Ground
 ground_of s first = record { hold = holds s.group.masks; nodes = s.group.nodes; cells = s.group.cells; first = first }

@@ -8,6 +8,7 @@ use Prim.Native.Nat.{ℕ, ◌+◌, ◌-◌, ◌/◌, ◌%◌, ◌≤◌, ◌<◌
 use native.Mathlib.Omega.{arith}
 use lib.Dec.{leb, ltb, eqb}
 use borrow.Author.Tests.{ltb-true, ltb-false, leb-true, leb-false, eqb-true, eqb-false, lt-ltb, le-leb, eq-eqb, ne_eqb}
+use Rattle.std.specs.Prelude.{None, Option, Some}
 use Rattle.tables.specs.Pair.{word}
 use Rattle.tables.proofs.Choice.{by_test, and_true, or_true, not_both}
 use Rattle.tables.proofs.Pair.{pair_back}
@@ -17,8 +18,6 @@ use Rattle.chain.proofs.Laws.{size_in, latest_some}
 use Rattle.group.specs.declared.Slot.{Slot}
 use Rattle.group.specs.declared.Stage.{Stage}
 use Rattle.group.specs.declared.Stage.TheVariants.{Unused, Open, Asking, Served, Voting, Committed, Aborted}
-use Rattle.group.specs.declared.Snapshot.{Snapshot}
-use Rattle.group.specs.declared.Snapshot.TheVariants.{Unfixed, Fixed}
 use Rattle.group.specs.State.{State, holds, tag_at, unfinished, noted, has, writer, involved, unused, committed, stage_number, is_fixed, in_stage, slot_at}
 use Rattle.whole.specs.Whole.{implies, same, counts_sound, mask_sound, masks_sound, entry_sound, row_sound, flight_sound, note_sound, notes_sound, asked_sound, places_sound, set_sound, sets_sound, slot_sound, spread_at, spread, empty_at, empty, spread_sound, unlearned_at, voting_sound, final_at, unapplying_at, committed_sound, transaction_sound, ascends_at, chain_sound, chain_at, cell_sound, chains_sound, differ_at, fits_at, pending_sound, node_sound, whole}
 use Rattle.serial.specs.Serial.{Handed}
@@ -44,9 +43,9 @@ agree false false f g = refl
 
 -- ---- parts of a slot
 
-is_fixed_lem : (p : Snapshot) → 0 < fixed_at p → is_fixed p ≡ true
-is_fixed_lem Unfixed l = absurd (omega arith)
-is_fixed_lem (Fixed s) l = refl
+is_fixed_lem : (p : Option ℕ) → 0 < fixed_at p → is_fixed p ≡ true
+is_fixed_lem None l = absurd (omega arith)
+is_fixed_lem (Some s) l = refl
 
 stage_low : (st : Stage) → stage_number st ≤ 6
 stage_low Unused = omega arith

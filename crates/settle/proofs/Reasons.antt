@@ -4,7 +4,7 @@
 use mathlib.Core.Path.{◌≡◌, refl}
 use mathlib.Core.Bool.{true, false}
 use mathlib.Core.List.{List}
-use mathlib.Core.Option.{Option, none, some}
+use Rattle.std.specs.Prelude.{Option, None, Some}
 use Prim.Native.Nat.{ℕ, ◌≤◌, ◌<◌}
 use native.Mathlib.Omega.{arith}
 use lib.ListN.{length}
@@ -30,25 +30,25 @@ unfolding least
 apply_least slot c flight n u hu p = let l = go (least flight n) (least_is 32 (λ t. unfinished flight t n) (λ t. number_at flight t n)) in (l, l)
   where
     go : (r : Option ℕ) → Least 32 (λ t. unfinished flight t n) (λ t. number_at flight t n) r → applied flight n r ≤ number_at flight u n
-    go none f = omega arith
-    go (some t) (is_least ht e m w) = m u hu p
+    go None f = omega arith
+    go (Some t) (is_least ht e m w) = m u hu p
 
 -- What is applied is learned, and has the least number of all that are unfinished here.
 pub data First (flight : List ℕ) (n : ℕ) : Option ℕ → Type 0 where
   first :
       {t : ℕ} → t < 32 → tag_at flight t n ≡ to_apply → ((u : ℕ) → u < 32 → unfinished flight u n ≡ true → number_at flight t n ≤ number_at flight u n)
-      → First flight n (some t)
+      → First flight n (Some t)
 
 pub apply_first : (flight : List ℕ) (n : ℕ) → Passed (apply_tests flight n) → First flight n (least flight n)
 unfolding least
 apply_first flight n o = go (least flight n) (least_is 32 (λ t. unfinished flight t n) (λ t. number_at flight t n)) o.0
   where
     go : (r : Option ℕ) → Least 32 (λ t. unfinished flight t n) (λ t. number_at flight t n) r → is_learned flight n r ≡ true → First flight n r
-    go none f e = absurd (not_both e refl)
-    go (some t) (is_least ht d m w) e = first ht (eqb-true _ _ e) m
+    go None f e = absurd (not_both e refl)
+    go (Some t) (is_least ht d m w) e = first ht (eqb-true _ _ e) m
 
 -- Its locks go.
-pub apply_unlocks : (flight : List ℕ) (t n : ℕ) → pair 8 t n < length flight → unfinished (apply_flight flight n (some t)) t n ≡ false
+pub apply_unlocks : (flight : List ℕ) (t n : ℕ) → pair 8 t n < length flight → unfinished (apply_flight flight n (Some t)) t n ≡ false
 apply_unlocks flight t n l = dropped flight t n l
 
 -- ---- advance

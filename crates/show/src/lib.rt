@@ -19,6 +19,7 @@ pub fn read_full<R: Read>(input: &mut R, space: &mut [u8]) -> io::Result<usize>
     ensures end { IfOk result (λ n. n < length space.new → IsAtEnd (R.remaining input.new)) }
 {
     let mut done = 0;
+    // a `while`, since a read takes as many bytes as it likes, and there is no range to go through
     while done < space.len() {
         let n = input.read(&mut space[done..])?;
         if n == 0 {

@@ -1,9 +1,11 @@
 -- Laws of tests: their two cases, and tests joined.
 -- Assumes nothing.
-use mathlib.Core.Path.{◌≡◌, refl}
+use mathlib.Core.Path.{◌≡◌, refl, sym}
 use mathlib.Core.Bool.{Bool, true, false, not, ◌&&◌, ◌||◌}
 use Prim.Native.Nat.{ℕ}
 use native.Mathlib.Omega.{arith}
+use Rattle.std.specs.Prelude.{None, Some}
+use Rattle.std.proofs.lemmas.Option.{none-some}
 
 -- a test does not both pass and fail
 pub not_both : {b : Bool} → b ≡ true → b ≡ false → ⊥
@@ -29,3 +31,7 @@ or_true false = refl
 pub and_true : (a b : Bool) → (a && b) ≡ true → (a ≡ true) × (b ≡ true)
 and_true true b e = (refl, e)
 and_true false b e = absurd (not_both e refl)
+
+-- an answer is not none
+pub some_none : {A : Type 0} (x : A) → Some x ≡ None → ⊥
+some_none x e = none-some x (sym e)

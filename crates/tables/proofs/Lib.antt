@@ -4,3 +4,4 @@ pub mod Pair
 pub mod Loop
 pub mod Anew
 pub mod Tests
+pub mod Ranges

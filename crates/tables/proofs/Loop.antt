@@ -5,7 +5,7 @@ use mathlib.Core.Path.{◌≡◌, refl, sym, ap, ap₂, ◌∙◌}
 use mathlib.Core.Logic.{◌≢◌}
 use mathlib.Core.Bool.{Bool, true, false, cond, not, ◌&&◌, ◌||◌}
 use mathlib.Core.List.{List}
-use mathlib.Core.Option.{Option, none, some}
+use Rattle.std.specs.Prelude.{Option, None, Some}
 use Prim.Native.Nat.{ℕ, zero, suc, ◌+◌, ◌≤◌, ◌<◌, max}
 use native.Mathlib.Numerals.{add-one}
 use native.Mathlib.Decide.{ℕ_discrete}
@@ -167,49 +167,49 @@ largest_same k f g h = turns_same _ _ _ k (λ i m l. ap (max m) (h i l))
 -- ---- the last that passes
 
 module _ (p : ℕ → Bool) where
-  pub last_at_none : last_at 0 p ≡ none
+  pub last_at_none : last_at 0 p ≡ None
   unfolding last_at
   last_at_none = turns_none _ _
 
-  pub last_at_next : (k : ℕ) → last_at (k + 1) p ≡ cond (p k) (some k) (last_at k p)
+  pub last_at_next : (k : ℕ) → last_at (k + 1) p ≡ cond (p k) (Some k) (last_at k p)
   unfolding last_at
   last_at_next k = turns_next _ _ k
 
 -- which number is meant
 pub data Last (k : ℕ) (p : ℕ → Bool) : Option ℕ → Type 0 where
-  no_last : ((i : ℕ) → i < k → p i ≡ false) → Last k p none
-  last : {j : ℕ} → j < k → p j ≡ true → ((i : ℕ) → j < i → i < k → p i ≡ false) → Last k p (some j)
+  no_last : ((i : ℕ) → i < k → p i ≡ false) → Last k p None
+  last : {j : ℕ} → j < k → p j ≡ true → ((i : ℕ) → j < i → i < k → p i ≡ false) → Last k p (Some j)
 
 pub last_is : (k : ℕ) (p : ℕ → Bool) → Last k p (last_at k p)
 unfolding last_at turns
 last_is zero p = no_last (λ i h. absurd (omega arith))
 last_is (suc k) p = go (p k) refl (last_at k p) (last_is k p)
   where
-    go : (b : Bool) → p k ≡ b → (r : Option ℕ) → Last k p r → Last (suc k) p (cond b (some k) r)
+    go : (b : Bool) → p k ≡ b → (r : Option ℕ) → Last k p r → Last (suc k) p (cond b (Some k) r)
     go true e r l = last {j = k} (omega arith) e (λ i h m. absurd (omega arith))
-    go false e none (no_last n) = no_last (below_next k n e)
-    go false e (some j) (last h q n) = last {j = j} (omega arith) q (λ i a l. below_next {P = λ m. j < m → p m ≡ false} k (λ m b c. n m c b) (λ _. e) i l a)
+    go false e None (no_last n) = no_last (below_next k n e)
+    go false e (Some j) (last h q n) = last {j = j} (omega arith) q (λ i a l. below_next {P = λ m. j < m → p m ≡ false} k (λ m b c. n m c b) (λ _. e) i l a)
 
 -- however it is looked for
 pub last_only : (k : ℕ) (p : ℕ → Bool) (r : Option ℕ) → Last k p r → r ≡ last_at k p
 last_only k p r l = go r (last_at k p) l (last_is k p)
   where
     go : (r s : Option ℕ) → Last k p r → Last k p s → r ≡ s
-    go none none (no_last n) (no_last m) = refl
-    go none (some j) (no_last n) (last h q m) = absurd (not_both q (n j h))
-    go (some i) none (last h q n) (no_last m) = absurd (not_both q (m i h))
-    go (some i) (some j) (last h q n) (last l o m) =
-        ap some (by_test (ltb i j) (λ e. absurd (not_both o (n j (ltb-true i j e) l))) (λ e.
+    go None None (no_last n) (no_last m) = refl
+    go None (Some j) (no_last n) (last h q m) = absurd (not_both q (n j h))
+    go (Some i) None (last h q n) (no_last m) = absurd (not_both q (m i h))
+    go (Some i) (Some j) (last h q n) (last l o m) =
+        ap Some (by_test (ltb i j) (λ e. absurd (not_both o (n j (ltb-true i j e) l))) (λ e.
         by_test (ltb j i) (λ e'. absurd (not_both q (m i (ltb-true j i e') h))) (λ e'. omega (arith, ltb-false))))
 
 pub last_at_same : (k : ℕ) (p q : ℕ → Bool) → ((i : ℕ) → i < k → p i ≡ q i) → last_at k p ≡ last_at k q
 unfolding last_at
-last_at_same k p q h = turns_same _ _ _ k (λ i r l. ap (λ (b : Bool). cond b (some i) r) (h i l))
+last_at_same k p q h = turns_same _ _ _ k (λ i r l. ap (λ (b : Bool). cond b (Some i) r) (h i l))
 
 -- ---- the least that passes
 
 module _ (p : ℕ → Bool) (f : ℕ → ℕ) where
-  pub least_at_none : least_at 0 p f ≡ none
+  pub least_at_none : least_at 0 p f ≡ None
   unfolding least_at
   least_at_none = turns_none _ _
 
@@ -219,38 +219,38 @@ module _ (p : ℕ → Bool) (f : ℕ → ℕ) where
 
 -- which number is meant
 pub data Least (k : ℕ) (p : ℕ → Bool) (f : ℕ → ℕ) : Option ℕ → Type 0 where
-  no_least : ((i : ℕ) → i < k → p i ≡ false) → Least k p f none
+  no_least : ((i : ℕ) → i < k → p i ≡ false) → Least k p f None
   least :
       {j : ℕ} → j < k → p j ≡ true → ((i : ℕ) → i < k → p i ≡ true → f j ≤ f i) → ((i : ℕ) → i < j → p i ≡ true → f j < f i)
-      → Least k p f (some j)
+      → Least k p f (Some j)
 
 pub least_is : (k : ℕ) (p : ℕ → Bool) (f : ℕ → ℕ) → Least k p f (least_at k p f)
 unfolding least_at turns lesser
 least_is zero p f = no_least (λ i h. absurd (omega arith))
 least_is (suc k) p f = go (p k) refl (least_at k p f) (least_is k p f)
   where
-    arms : (j : ℕ) (b : Bool) → ltb (f k) (f j) ≡ b → p k ≡ true → Least k p f (some j) → Least (suc k) p f (cond b (some k) (some j))
+    arms : (j : ℕ) (b : Bool) → ltb (f k) (f j) ≡ b → p k ≡ true → Least k p f (Some j) → Least (suc k) p f (cond b (Some k) (Some j))
     arms j true e q (least h o l m) =
         least {j = k} (omega arith) q (below_next k (λ i a r. omega (arith, ltb-true, l i a r)) (λ _. omega arith)) (λ i a r. omega (arith, ltb-true, l i a r))
     arms j false e q (least h o l m) = least {j = j} (omega arith) o (below_next k l (λ _. ltb-false (f k) (f j) e)) m
 
     go : (b : Bool) → p k ≡ b → (r : Option ℕ) → Least k p f r → Least (suc k) p f (cond b (lesser f k r) r)
-    go true e none (no_least n) =
+    go true e None (no_least n) =
         least {j = k} (omega arith) e (below_next k (λ i a r. absurd (not_both r (n i a))) (λ _. omega arith)) (λ i a r. absurd (not_both r (n i a)))
-    go true e (some j) l = arms j (ltb (f k) (f j)) refl e l
-    go false e none (no_least n) = no_least (below_next k n e)
-    go false e (some j) (least h o l m) = least {j = j} (omega arith) o (below_next k l (λ r. absurd (not_both r e))) m
+    go true e (Some j) l = arms j (ltb (f k) (f j)) refl e l
+    go false e None (no_least n) = no_least (below_next k n e)
+    go false e (Some j) (least h o l m) = least {j = j} (omega arith) o (below_next k l (λ r. absurd (not_both r e))) m
 
 -- however it is looked for
 pub least_only : (k : ℕ) (p : ℕ → Bool) (f : ℕ → ℕ) (r : Option ℕ) → Least k p f r → r ≡ least_at k p f
 least_only k p f r l = go r (least_at k p f) l (least_is k p f)
   where
     go : (r s : Option ℕ) → Least k p f r → Least k p f s → r ≡ s
-    go none none (no_least n) (no_least m) = refl
-    go none (some j) (no_least n) (least h q m o) = absurd (not_both q (n j h))
-    go (some i) none (least h q n o) (no_least m) = absurd (not_both q (m i h))
-    go (some i) (some j) (least h q n o) (least h' q' n' o') =
-        ap some (by_test (ltb i j) (λ e. absurd (omega (arith, o' i (ltb-true i j e) q, n j h' q'))) (λ e.
+    go None None (no_least n) (no_least m) = refl
+    go None (Some j) (no_least n) (least h q m o) = absurd (not_both q (n j h))
+    go (Some i) None (least h q n o) (no_least m) = absurd (not_both q (m i h))
+    go (Some i) (Some j) (least h q n o) (least h' q' n' o') =
+        ap Some (by_test (ltb i j) (λ e. absurd (omega (arith, o' i (ltb-true i j e) q, n j h' q'))) (λ e.
         by_test (ltb j i) (λ e'. absurd (omega (arith, o j (ltb-true j i e') q', n' i h q))) (λ e'. omega (arith, ltb-false))))
 
 pub least_at_same :
@@ -258,8 +258,8 @@ pub least_at_same :
 least_at_same k p q f g h e = least_only k q g (least_at k p f) (go (least_at k p f) (least_is k p f))
   where
     go : (r : Option ℕ) → Least k p f r → Least k q g r
-    go none (no_least n) = no_least (λ i a. sym (h i a) ∙ n i a)
-    go (some j) (least a o n m) =
+    go None (no_least n) = no_least (λ i a. sym (h i a) ∙ n i a)
+    go (Some j) (least a o n m) =
         least {j = j} a (sym (h j a) ∙ o) (λ i b c. omega (arith, n i b (h i b ∙ c), e i b, e j a))
         (λ i b c. let l : i < k = omega arith in omega (arith, m i b (h i l ∙ c), e i l, e j a))
 

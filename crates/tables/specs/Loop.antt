@@ -1,7 +1,6 @@
 -- What a loop over the numbers below k comes to.
 -- Assumes nothing.
-use Rattle.std.specs.Prelude.{ℕ, zero, suc, max, Bool, true, false, cond, ◌&&◌, ◌||◌, List, ltb}
-use Rattle.std.proofs.Math.Option.{Option, none, some}
+use Rattle.std.specs.Prelude.{ℕ, zero, suc, max, Bool, true, false, cond, ◌&&◌, ◌||◌, List, ltb, Option, None, Some}
 use Rattle.tables.specs.Table.{at, put}
 
 -- does the test p pass at some number below k
@@ -25,16 +24,16 @@ largest k f = turns k (λ i m. max m (f i)) 0
 
 -- the last number below k that passes p
 unfoldable pub last_at : ℕ → (ℕ → Bool) → Option ℕ
-last_at k p = turns k (λ i found. cond (p i) (some i) found) none
+last_at k p = turns k (λ i found. cond (p i) (Some i) found) None
 
 -- of i and what was found before it, the one at which f is less; what was found before where f is the same
 unfoldable pub lesser : (ℕ → ℕ) → ℕ → Option ℕ → Option ℕ
-lesser f i none = some i
-lesser f i (some j) = cond (ltb (f i) (f j)) (some i) (some j)
+lesser f i None = Some i
+lesser f i (Some j) = cond (ltb (f i) (f j)) (Some i) (Some j)
 
 -- the number below k that passes p at which f is least, the first of such
 unfoldable pub least_at : ℕ → (ℕ → Bool) → (ℕ → ℕ) → Option ℕ
-least_at k p f = turns k (λ i found. cond (p i) (lesser f i found) found) none
+least_at k p f = turns k (λ i found. cond (p i) (lesser f i found) found) None
 
 -- the table l changed by place: for each i below k, what stands at place i is made anew from i and itself
 unfoldable pub each : {A : Type 0} → A → ℕ → (ℕ → ℕ) → (ℕ → A → A) → List A → List A

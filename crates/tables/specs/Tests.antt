@@ -1,9 +1,8 @@
--- Tests in their order, each with the code that is given where it fails: the first that fails counts.
+-- Tests in their order, each with the refusal that is given where it fails: the first that fails counts.
 -- Assumes nothing.
-use Rattle.std.specs.Prelude.{ℕ, Bool, cond, List, [], ◌∷◌}
-use Rattle.std.proofs.Math.Option.{Option, none, some}
+use Rattle.std.specs.Prelude.{Bool, cond, List, [], ◌∷◌, Option, None, Some}
 
--- the code of the first test that fails
-unfoldable pub refusal : List (Bool × ℕ) → Option ℕ
-refusal [] = none
-refusal (t ∷ ts) = cond t.0 (refusal ts) (some t.1)
+-- the refusal of the first test that fails
+unfoldable pub refusal : {R : Type 0} → List (Bool × R) → Option R
+refusal [] = None
+refusal (t ∷ ts) = cond t.0 (refusal ts) (Some t.1)

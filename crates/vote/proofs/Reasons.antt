@@ -5,7 +5,7 @@ use mathlib.Core.Path.{◌≡◌, refl, sym, ap, ◌∙◌}
 use mathlib.Core.Logic.{◌≢◌}
 use mathlib.Core.Bool.{Bool, true, false, cond, not, ◌&&◌, ◌||◌}
 use mathlib.Core.List.{List}
-use mathlib.Core.Option.{Option, none, some}
+use Rattle.std.specs.Prelude.{Option, None, Some, Ok, Err}
 use Prim.Native.Nat.{ℕ, ◌≤◌, ◌<◌}
 use native.Mathlib.Omega.{arith}
 use lib.Dec.{ltb}
@@ -18,12 +18,14 @@ use Rattle.tables.proofs.Tests.{Passed}
 use Rattle.number.specs.Proposal.{proposal, IsProposal}
 use Rattle.number.proofs.Laws.{proposal_is}
 use Rattle.counters.specs.declared.Counters.{Counters}
-use Rattle.chain.specs.Chain.{Chains, len_at, latest, has_room}
+use Rattle.chain.specs.declared.Chains.{Chains}
+use Rattle.chain.specs.Chain.{len_at, latest, has_room}
 use Rattle.group.specs.declared.Slot.{Slot}
 use Rattle.group.specs.declared.Answer.TheVariants.{Yes}
 use Rattle.group.specs.State.{holds, tag_at, unfinished, noted, has, committed, aborted, stage_number, snapshot_of}
-use Rattle.vote.specs.Vote.{prepare_tests, bars, rival, conflict, behind, outdated, crammed, full, exists, reason, Vote, votes_yes, votes_no, vote_for, vote, prepare_turn}
-use Rattle.vote.proofs.Laws.{no_2, no_3, by_proposal}
+use Rattle.vote.specs.declared.Reason.{Reason}
+use Rattle.vote.specs.declared.Reason.TheVariants.{Conflict, Outdated, Full, NoNumber}
+use Rattle.vote.specs.Vote.{prepare_tests, bars, rival, conflict, behind, outdated, crammed, full, exists, reason, Vote, vote_for, vote, prepare_turn}
 
 -- ---- what a prepare is let in to
 
@@ -38,8 +40,8 @@ prepare_in_time slot flight t n o = let e = o.0 in let g = o.1.0 in
 
 -- The counter is saved before the vote: whatever is answered yes to is at most the counter.
 pub yes_saves : (slot : Slot) (c : Counters) (v : Vote) (k : ℕ) → (prepare_turn slot c v).answer ≡ Yes k → k ≤ (prepare_turn slot c v).counters.counter
-yes_saves slot c (votes_yes j) k e = let z : j ≡ k = cc in omega arith
-yes_saves slot c (votes_no r) k e = let z : ◌≡◌ {A = ℕ} 0 1 = cc in omega arith
+yes_saves slot c (Ok j) k e = let z : j ≡ k = cc in omega arith
+yes_saves slot c (Err r) k e = cc
 
 -- ---- what the four tests say
 
@@ -71,34 +73,34 @@ module _ (slot : Slot) (c : Counters) (cells : ℕ) (masks flight : List ℕ) (c
   voted = vote slot c cells masks flight chains writes reads t n
 
   -- where a test fails the vote is no, so that each has passed where it is yes
-  no_yes : (r k : ℕ) → votes_no r ≡ votes_yes k → ⊥
-  no_yes r k e = let z : ◌≡◌ {A = ℕ} 0 1 = cc in omega arith
+  no_yes : (r : Reason) (k : ℕ) → Err r ≡ Ok k → ⊥
+  no_yes r k e = cc
 
-  module _ (k : ℕ) (e : voted ≡ votes_yes k) where
+  module _ (k : ℕ) (e : voted ≡ Ok k) where
     no_conflict : conflict cells masks flight writes reads t n ≡ false
     unfolding vote reason refusal
-    no_conflict = by_test (conflict cells masks flight writes reads t n) (λ z. absurd (no_yes 1 k (rw z at e))) (λ z. z)
+    no_conflict = by_test (conflict cells masks flight writes reads t n) (λ z. absurd (no_yes Conflict k (rw z at e))) (λ z. z)
 
     not_outdated : outdated cells masks chains reads t n (snapshot_of slot.snapshot) ≡ false
     unfolding vote reason refusal
-    not_outdated = by_test (outdated cells masks chains reads t n (snapshot_of slot.snapshot)) (λ z. absurd (no_yes 2 k (rw (no_conflict, z) at e))) (λ z. z)
+    not_outdated = by_test (outdated cells masks chains reads t n (snapshot_of slot.snapshot)) (λ z. absurd (no_yes Outdated k (rw (no_conflict, z) at e))) (λ z. z)
 
     not_full : full cells masks chains writes t n ≡ false
     unfolding vote reason refusal
-    not_full = by_test (full cells masks chains writes t n) (λ z. absurd (no_yes 3 k (rw (no_conflict, not_outdated, z) at e))) (λ z. z)
+    not_full = by_test (full cells masks chains writes t n) (λ z. absurd (no_yes Full k (rw (no_conflict, not_outdated, z) at e))) (λ z. z)
 
-    its_number : proposal n c.counter ≡ some k
+    its_number : proposal n c.counter ≡ Some k
     unfolding vote reason refusal
     its_number = go (proposal n c.counter) (rw (no_conflict, not_outdated, not_full) at e)
       where
-        go : (p : Option ℕ) → vote_for (cond (exists p) none (some 4)) p ≡ votes_yes k → p ≡ some k
-        go none d = absurd (no_yes 4 k d)
-        go (some j) d = let z : j ≡ k = cc in ap some z
+        go : (p : Option ℕ) → vote_for (cond (exists p) None (Some NoNumber)) p ≡ Ok k → p ≡ Some k
+        go None d = absurd (no_yes NoNumber k d)
+        go (Some j) d = let z : j ≡ k = cc in ap Some z
 
   -- A yes locks: no other transaction with an unfinished entry here reads or writes, in a cell held here, what t writes, nor writes what
   -- t read.
   pub yes_alone :
-      (k : ℕ) → voted ≡ votes_yes k → (u i : ℕ) → u < 32 → u ≢ t → unfinished flight u n ≡ true → i < cells → holds masks n i ≡ true → Apart writes reads t u i
+      (k : ℕ) → voted ≡ Ok k → (u i : ℕ) → u < 32 → u ≢ t → unfinished flight u n ≡ true → i < cells → holds masks n i ≡ true → Apart writes reads t u i
   unfolding conflict bars
   yes_alone k e u i hu d p hi o =
       let x : any cells (bars masks writes reads t n u) ≡ false = rw (ne_eqb u t d, p) at (any_at (rival cells masks flight writes reads t n) 32 (no_conflict k e) u hu) in
@@ -107,44 +109,38 @@ module _ (slot : Slot) (c : Counters) (cells : ℕ) (masks flight : List ℕ) (c
 
   -- A yes validates: every read cell held here has its newest version at or below the snapshot.
   pub yes_current :
-      (k : ℕ) → voted ≡ votes_yes k → (i : ℕ) → i < cells → holds masks n i ≡ true → 0 < noted reads t i
+      (k : ℕ) → voted ≡ Ok k → (i : ℕ) → i < cells → holds masks n i ≡ true → 0 < noted reads t i
       → latest chains.lens chains.versions i n ≤ snapshot_of slot.snapshot
   unfolding outdated
   yes_current k e i hi o l =
       ltb-false _ _ (rw (o, lt-ltb 0 (noted reads t i) l) at (any_at (behind masks chains reads t n (snapshot_of slot.snapshot)) cells (not_outdated k e) i hi))
 
   -- A yes has room: every written cell held here has at most 7 versions.
-  pub yes_room : (k : ℕ) → voted ≡ votes_yes k → (i : ℕ) → i < cells → holds masks n i ≡ true → 0 < noted writes t i → len_at chains.lens i n ≤ 7
+  pub yes_room : (k : ℕ) → voted ≡ Ok k → (i : ℕ) → i < cells → holds masks n i ≡ true → 0 < noted writes t i → len_at chains.lens i n ≤ 7
   unfolding full has_room
   yes_room k e i hi o l =
       let z : not (has_room chains.lens i n) ≡ false = rw (o, lt-ltb 0 (noted writes t i) l) at (any_at (crammed masks chains.lens writes t n) cells (not_full k e) i hi) in
       omega (arith, ltb-true (len_at chains.lens i n) 8 (sym (not_not (ltb (len_at chains.lens i n) 8)) ∙ ap not z))
 
   -- A yes is to the number that the paper's rule gives: the least above the counter that leaves n when divided by 8.
-  pub yes_number : (k : ℕ) → voted ≡ votes_yes k → IsProposal n c.counter (some k)
+  pub yes_number : (k : ℕ) → voted ≡ Ok k → IsProposal n c.counter (Some k)
   yes_number k e = rw (its_number k e) at (proposal_is n c.counter)
 
   -- without a conflict, the reason is another
-  other_reason : conflict cells masks flight writes reads t n ≡ false → voted ≢ votes_no 1
-  other_reason e d = by_test (outdated cells masks chains reads t n (snapshot_of slot.snapshot))
-      (λ f. differs (no_2 slot c cells masks flight chains writes reads t n e f ∙ d))
-      (λ f. by_test (full cells masks chains writes t n) (λ g. differs₃ (no_3 slot c cells masks flight chains writes reads t n e f g ∙ d))
-      (λ g. last (proposal n c.counter) (by_proposal slot c cells masks flight chains writes reads t n e f g ∙ d)))
+  other_reason : conflict cells masks flight writes reads t n ≡ false → voted ≢ Err Conflict
+  unfolding vote reason refusal
+  other_reason e d = go (not (outdated cells masks chains reads t n (snapshot_of slot.snapshot))) (not (full cells masks chains writes t n)) (proposal n c.counter) (rw e at d)
     where
-      differs : votes_no 2 ≡ votes_no 1 → ⊥
-      differs z = let y : ◌≡◌ {A = ℕ} 2 1 = cc in omega arith
-
-      differs₃ : votes_no 3 ≡ votes_no 1 → ⊥
-      differs₃ z = let y : ◌≡◌ {A = ℕ} 3 1 = cc in omega arith
-
-      last : (p : Option ℕ) → vote_for none p ≡ votes_no 1 → ⊥
-      last none z = let y : ◌≡◌ {A = ℕ} 4 1 = cc in omega arith
-      last (some j) z = let y : ◌≡◌ {A = ℕ} 0 1 = cc in omega arith
+      go : (a b : Bool) (p : Option ℕ) → vote_for (cond a (cond b (cond (exists p) None (Some NoNumber)) (Some Full)) (Some Outdated)) p ≢ Err Conflict
+      go false b p z = cc
+      go true false p z = cc
+      go true true None z = cc
+      go true true (Some j) z = cc
 
   -- A no for reason 1 is another's doing: where all other unfinished entries here are of transactions apart from t, that is not the
   -- answer. What t itself reads is no bar to what it writes.
   pub own_is_no_bar :
-      ((u i : ℕ) → u < 32 → u ≢ t → unfinished flight u n ≡ true → i < cells → holds masks n i ≡ true → Apart writes reads t u i) → voted ≢ votes_no 1
+      ((u i : ℕ) → u < 32 → u ≢ t → unfinished flight u n ≡ true → i < cells → holds masks n i ≡ true → Apart writes reads t u i) → voted ≢ Err Conflict
   unfolding conflict bars
   own_is_no_bar f = other_reason (by_test (conflict cells masks flight writes reads t n) (λ e. absurd (who (any_where 32 (rival cells masks flight writes reads t n) e))) (λ e. e))
     where

@@ -1,278 +1,141 @@
-// Voting: rule C, prepare. It moves one slot and one node's counters, which go by value; of the tables, which the caller lends, the flight table
-// alone is changed, where it lies. The refusals come first, in their order; then the cut step, which changes no table; then the whole step.
-// The functions are for callers that know their places to be in range.
+// Voting: rule C, prepare. It moves one slot and one node's counters, which go by value; of the tables, which the caller lends, the flight
+// table alone is changed, where it lies. The refusals come first, in their order; then the cut step, which changes no table; then the
+// whole step.
 #![tactic(auto)]
 
-ghost use Rattle.std.specs.Prelude.{◌≡◌, ◌&&◌, ◌||◌, ◌≤◌, ◌<◌};
-ghost use Rattle.std.proofs.Math.Option.{none};
+ghost use Rattle.std.specs.Prelude.{◌≡◌};
 ghost use Rattle.tables.specs.Loop.{any};
 ghost use Rattle.tables.specs.Tests.{refusal};
-ghost use Rattle.number.specs.Proposal.{result_of};
-ghost use Rattle.chain.specs.Chain.{chains};
-ghost use Rattle.group.specs.State.{has};
+ghost use Rattle.group.specs.State.{with_flight};
 ghost use Rattle.group.specs.Answer.{stepped, changed};
-ghost use Rattle.vote.specs.Vote.{prepare_tests, bars as is_bar, rival as is_rival, conflict as is_conflict, behind as is_behind, outdated as is_outdated, crammed as is_crammed, vote as vote_of, vote_for, ballot_of, vote_rise, prepare_turn, prepare_flight};
+ghost use Rattle.vote.specs.Vote.{prepare_tests, bars as is_bar, rival as is_rival, conflict as is_conflict, behind as is_behind, outdated as is_outdated, crammed as is_crammed, full as is_full, reason_number, vote as vote_of, vote_rise, prepare_turn, prepare_flight};
 
 use counters::Counters;
-use group::{Answer, Slot, Turn};
-use number::Proposal;
+use group::{Answer, Group, Refusal, Slot, Stage, Tables, Turn};
 
-// What rule C comes to: yes with the proposal, or no with the reason.
+// Why a vote is no: the paper's reasons 1 to 4, in their order.
 #[derive(Clone, Copy)]
-enum Ballot {
-    Yes(u32),
-    No(u32),
+pub enum Reason {
+    Conflict,
+    Outdated,
+    Full,
+    NoNumber,
 }
 
-// ---- rule C, test 1: among cells held here, no other unfinished entry reads or writes one that t writes, nor writes one that t read
-
-// Transaction u reads or writes the cell, which t writes, or u writes it and t read it.
-fn clashes(writes: &[u64; 1024], reads: &[u64; 1024], t: u8, u: u8, cell: u8) -> bool
-    requires { (t < 32) × (u < 32) × (cell < 32) }
-    ensures { result ≡ ((has writes.now t cell && (has reads.now u cell || has writes.now u cell)) || (has reads.now t cell && has writes.now u cell)) }
-{
-    if group::has(writes, t, cell) {
-        return group::has(reads, u, cell) || group::has(writes, u, cell);
-    }
-    group::has(reads, t, cell) && group::has(writes, u, cell)
-}
-
-fn bars(
-    masks: &[u8; 32],
-    writes: &[u64; 1024],
-    reads: &[u64; 1024],
-    t: u8,
-    node: u8,
-    u: u8,
-    cell: u8,
-) -> bool
-    requires { (t < 32) × (node < 8) × (u < 32) × (cell < 32) }
-    ensures { result ≡ is_bar masks.now writes.now reads.now t node u cell }
-{
-    group::holds(masks, node, cell) && clashes(writes, reads, t, u, cell)
-}
-
-fn meets(
-    cells: u8,
-    masks: &[u8; 32],
-    writes: &[u64; 1024],
-    reads: &[u64; 1024],
-    t: u8,
-    node: u8,
-    u: u8,
-) -> bool
-    requires { (cells ≤ 32) × (t < 32) × (node < 8) × (u < 32) }
-    ensures { result ≡ any cells (is_bar masks.now writes.now reads.now t node u) }
-{
-    let mut cell: u8 = 0;
-    while cell < cells {
-        if bars(masks, writes, reads, t, node, u, cell) {
-            return true;
+impl Reason {
+    fn number(self) -> u32
+        ensures { result ≡ reason_number self }
+    {
+        match self {
+            Reason::Conflict => 1,
+            Reason::Outdated => 2,
+            Reason::Full => 3,
+            Reason::NoNumber => 4,
         }
-        cell = cell + 1;
     }
-    false
+}
+
+// ---- test 1: among cells held here, no other unfinished entry reads or writes one that t writes, nor writes one that t read
+
+#[tactic(auto, unfolding(crate::specs::Vote::bars))]
+fn bars(g: &Group, tables: &Tables, t: u8, node: u8, u: u8, cell: u8) -> bool
+    ensures { result ≡ is_bar g.now.masks tables.now.writes tables.now.reads t node u cell }
+{
+    g.holds(node, cell)
+        && (tables.wrote(t, cell) && (tables.has_read(u, cell) || tables.wrote(u, cell))
+            || tables.has_read(t, cell) && tables.wrote(u, cell))
+}
+
+fn meets(g: &Group, tables: &Tables, t: u8, node: u8, u: u8) -> bool
+    ensures { result ≡ any g.now.cells (is_bar g.now.masks tables.now.writes tables.now.reads t node u) }
+{
+    (0..g.cells).any(|cell| bars(g, tables, t, node, u, cell))
 }
 
 // A transaction is no bar to itself: what it reads it may write.
-fn rival(
-    cells: u8,
-    masks: &[u8; 32],
-    flight: &[u64; 256],
-    writes: &[u64; 1024],
-    reads: &[u64; 1024],
-    t: u8,
-    node: u8,
-    u: u8,
-) -> bool
-    requires { (cells ≤ 32) × (t < 32) × (node < 8) × (u < 32) }
-    ensures { result ≡ is_rival cells masks.now flight.now writes.now reads.now t node u }
+fn rival(g: &Group, tables: &Tables, t: u8, node: u8, u: u8) -> bool
+    ensures { result ≡ is_rival g.now.cells g.now.masks tables.now.flight tables.now.writes tables.now.reads t node u }
 {
-    if u == t {
-        return false;
-    }
-    group::unfinished(flight, u, node) && meets(cells, masks, writes, reads, t, node, u)
+    u != t && tables.unfinished(u, node) && meets(g, tables, t, node, u)
 }
 
-fn conflict(
-    cells: u8,
-    masks: &[u8; 32],
-    flight: &[u64; 256],
-    writes: &[u64; 1024],
-    reads: &[u64; 1024],
-    t: u8,
-    node: u8,
-) -> bool
-    requires { (cells ≤ 32) × (t < 32) × (node < 8) }
-    ensures { result ≡ is_conflict cells masks.now flight.now writes.now reads.now t node }
+fn conflict(g: &Group, tables: &Tables, t: u8, node: u8) -> bool
+    ensures { result ≡ is_conflict g.now.cells g.now.masks tables.now.flight tables.now.writes tables.now.reads t node }
 {
-    let mut u: u8 = 0;
-    while u < 32 {
-        if rival(cells, masks, flight, writes, reads, t, node, u) {
-            return true;
-        }
-        u = u + 1;
-    }
-    false
+    (0..32).any(|u| rival(g, tables, t, node, u))
 }
 
-// ---- rule C, test 2: no read cell held here has a newest version above the snapshot
+// ---- test 2: no read cell held here has a newest version above the snapshot s
 
-fn behind(
-    masks: &[u8; 32],
-    lens: &[u8; 256],
-    versions: &[u64; 2048],
-    reads: &[u64; 1024],
-    t: u8,
-    node: u8,
-    s: u32,
-    cell: u8,
-) -> bool
-    requires { (t < 32) × (node < 8) × (cell < 32) }
-    ensures { result ≡ is_behind masks.now (chains lens.now versions.now) reads.now t node s cell }
+fn behind(g: &Group, tables: &Tables, t: u8, node: u8, s: u32, cell: u8) -> bool
+    ensures { result ≡ is_behind g.now.masks tables.now.chains tables.now.reads t node s cell }
 {
-    group::holds(masks, node, cell)
-        && (group::has(reads, t, cell) && chain::stale(lens, versions, cell, node, s))
+    g.holds(node, cell) && tables.has_read(t, cell) && tables.chains.stale(cell, node, s)
 }
 
-fn outdated(
-    cells: u8,
-    masks: &[u8; 32],
-    lens: &[u8; 256],
-    versions: &[u64; 2048],
-    reads: &[u64; 1024],
-    t: u8,
-    node: u8,
-    s: u32,
-) -> bool
-    requires { (cells ≤ 32) × (t < 32) × (node < 8) }
-    ensures { result ≡ is_outdated cells masks.now (chains lens.now versions.now) reads.now t node s }
+fn outdated(g: &Group, tables: &Tables, t: u8, node: u8, s: u32) -> bool
+    ensures { result ≡ is_outdated g.now.cells g.now.masks tables.now.chains tables.now.reads t node s }
 {
-    let mut cell: u8 = 0;
-    while cell < cells {
-        if behind(masks, lens, versions, reads, t, node, s, cell) {
-            return true;
-        }
-        cell = cell + 1;
-    }
-    false
+    (0..g.cells).any(|cell| behind(g, tables, t, node, s, cell))
 }
 
-// ---- rule C, test 3: no written cell held here has 8 versions
+// ---- test 3: no written cell held here has 8 versions
 
-fn crammed(
-    masks: &[u8; 32],
-    lens: &[u8; 256],
-    writes: &[u64; 1024],
-    t: u8,
-    node: u8,
-    cell: u8,
-) -> bool
-    requires { (t < 32) × (node < 8) × (cell < 32) }
-    ensures { result ≡ is_crammed masks.now lens.now writes.now t node cell }
+fn crammed(g: &Group, tables: &Tables, t: u8, node: u8, cell: u8) -> bool
+    ensures { result ≡ is_crammed g.now.masks tables.now.chains.lens tables.now.writes t node cell }
 {
-    group::holds(masks, node, cell)
-        && (group::has(writes, t, cell) && !chain::room(lens, cell, node))
+    g.holds(node, cell) && tables.wrote(t, cell) && !tables.chains.room(cell, node)
 }
 
-fn full(
-    cells: u8,
-    masks: &[u8; 32],
-    lens: &[u8; 256],
-    writes: &[u64; 1024],
-    t: u8,
-    node: u8,
-) -> bool
-    requires { (cells ≤ 32) × (t < 32) × (node < 8) }
-    ensures { result ≡ any cells (is_crammed masks.now lens.now writes.now t node) }
+fn full(g: &Group, tables: &Tables, t: u8, node: u8) -> bool
+    ensures { result ≡ is_full g.now.cells g.now.masks tables.now.chains tables.now.writes t node }
 {
-    let mut cell: u8 = 0;
-    while cell < cells {
-        if crammed(masks, lens, writes, t, node, cell) {
-            return true;
-        }
-        cell = cell + 1;
-    }
-    false
+    (0..g.cells).any(|cell| crammed(g, tables, t, node, cell))
 }
 
-// ---- rule C, prepare
+// ---- the vote
 
-// Test 4: a proposal exists.
-fn ballot_of(p: Proposal) -> Ballot
-    ensures { ballot_of result ≡ vote_for none (result_of p) }
+// The four tests in their order, the last that a proposal exists: the first that fails is the reason of a no.
+#[tactic(auto, unfolding(crate::specs::Vote::vote, crate::specs::Vote::reason, tables::specs::Tests::refusal))]
+fn vote(slot: Slot, c: Counters, g: &Group, tables: &Tables, t: u8, node: u8) -> Result<u32, Reason>
+    ensures { result ≡ vote_of slot c g.now.cells g.now.masks tables.now.flight tables.now.chains tables.now.writes tables.now.reads t node }
 {
-    match p {
-        Proposal::Number(k) => Ballot::Yes(k),
-        Proposal::Nothing => Ballot::No(4),
+    if conflict(g, tables, t, node) {
+        return Err(Reason::Conflict);
     }
+    if outdated(g, tables, t, node, slot.snapshot.unwrap_or(0)) {
+        return Err(Reason::Outdated);
+    }
+    if full(g, tables, t, node) {
+        return Err(Reason::Full);
+    }
+    number::propose(node, c.counter).ok_or(Reason::NoNumber)
 }
 
-// The four tests in their order: the first that fails is the reason of a no.
-fn vote(
-    slot: Slot,
-    c: Counters,
-    cells: u8,
-    masks: &[u8; 32],
-    flight: &[u64; 256],
-    lens: &[u8; 256],
-    versions: &[u64; 2048],
-    writes: &[u64; 1024],
-    reads: &[u64; 1024],
-    t: u8,
-    node: u8,
-) -> Ballot
-    requires { (cells ≤ 32) × (t < 32) × (node < 8) }
-    ensures { ballot_of result ≡ vote_of slot c cells masks.now flight.now (chains lens.now versions.now) writes.now reads.now t node }
-{
-    if conflict(cells, masks, flight, writes, reads, t, node) {
-        return Ballot::No(1);
-    }
-    let x = slot.snapshot;
-    let s = group::snapshot_of(x);
-    if outdated(cells, masks, lens, versions, reads, t, node, s) {
-        return Ballot::No(2);
-    }
-    if full(cells, masks, lens, writes, t, node) {
-        return Ballot::No(3);
-    }
-    let p = number::propose(node, c.counter);
-    ballot_of(p)
-}
-
-// A vote is entered and answered, and on yes the counter becomes the proposal; of a cut one the counter alone is written.
+// A vote is entered and answered, and on yes the counter becomes the proposal.
 fn cast(
-    cut: bool,
     slot: Slot,
     c: Counters,
-    flight: &mut [u64; 256],
+    tables: &mut Tables,
     t: u8,
     node: u8,
-    b: Ballot,
+    v: Result<u32, Reason>,
 ) -> Turn
-    requires { (t < 32) × (node < 8) }
-    ensures { (result ≡ stepped none cut slot c (vote_rise (ballot_of b)) (prepare_turn slot c (ballot_of b))) × (flight.new ≡ changed none cut flight.old (prepare_flight flight.old t node (ballot_of b))) }
+    ensures { (result ≡ prepare_turn slot c v) × (tables.new ≡ with_flight tables.old (prepare_flight tables.old.flight t node v)) }
 {
-    match b {
-        Ballot::Yes(k) => {
-            if cut {
-                return group::cut_at(k, slot, c);
-            }
-            group::enter(flight, t, node, group::VOTED_YES, k);
-            let raised = counters::counted(c, k);
+    match v {
+        Ok(k) => {
+            tables.enter(t, node, group::VOTED_YES, k);
             Turn {
                 answer: Answer::Yes(k),
                 slot,
-                counters: raised,
+                counters: c.counted(k),
             }
         }
-        Ballot::No(reason) => {
-            if cut {
-                return group::cut_at(0, slot, c);
-            }
-            group::enter(flight, t, node, group::VOTED_NO, 0);
+        Err(why) => {
+            tables.enter(t, node, group::VOTED_NO, 0);
             Turn {
-                answer: Answer::No(reason),
+                answer: Answer::No(why.number()),
                 slot,
                 counters: c,
             }
@@ -280,34 +143,29 @@ fn cast(
     }
 }
 
-// Rule C, at the node whose counters these are. A prepare is taken only where one was sent and no decision was learned since.
+// Rule C, at the node whose counters these are. A prepare is taken only where one was sent and no decision was learned since. Of a cut one
+// the counter alone is written.
 #[tactic(auto, unfolding(crate::specs::Vote::prepare_tests, tables::specs::Tests::refusal))]
 pub fn prepare(
     cut: bool,
     slot: Slot,
     c: Counters,
-    cells: u8,
-    masks: &[u8; 32],
-    flight: &mut [u64; 256],
-    lens: &[u8; 256],
-    versions: &[u64; 2048],
-    writes: &[u64; 1024],
-    reads: &[u64; 1024],
+    g: &Group,
+    tables: &mut Tables,
     t: u8,
     node: u8,
-) -> Turn
-    requires { (cells ≤ 32) × (t < 32) × (node < 8) }
-    ensures { (result ≡ stepped (refusal (prepare_tests slot flight.old t node)) cut slot c (vote_rise (vote_of slot c cells masks.now flight.old (chains lens.now versions.now) writes.now reads.now t node)) (prepare_turn slot c (vote_of slot c cells masks.now flight.old (chains lens.now versions.now) writes.now reads.now t node))) × (flight.new ≡ changed (refusal (prepare_tests slot flight.old t node)) cut flight.old (prepare_flight flight.old t node (vote_of slot c cells masks.now flight.old (chains lens.now versions.now) writes.now reads.now t node))) }
+) -> Result<Turn, Refusal>
+    ensures { (result ≡ stepped (refusal (prepare_tests slot tables.old.flight t node)) cut slot c (vote_rise (vote_of slot c g.now.cells g.now.masks tables.old.flight tables.old.chains tables.old.writes tables.old.reads t node)) (prepare_turn slot c (vote_of slot c g.now.cells g.now.masks tables.old.flight tables.old.chains tables.old.writes tables.old.reads t node))) × (tables.new ≡ changed (refusal (prepare_tests slot tables.old.flight t node)) cut tables.old (with_flight tables.old (prepare_flight tables.old.flight t node (vote_of slot c g.now.cells g.now.masks tables.old.flight tables.old.chains tables.old.writes tables.old.reads t node)))) }
 {
-    let st = slot.stage;
-    if group::stage_number(st) != group::VOTING {
-        return group::refused(19, slot, c);
+    if !matches!(slot.stage, Stage::Voting) {
+        return Err(Refusal::WrongStage);
     }
-    if group::tag(flight, t, node) != group::SENT {
-        return group::refused(19, slot, c);
+    if tables.tag(t, node) != group::SENT {
+        return Err(Refusal::WrongStage);
     }
-    let b = vote(
-        slot, c, cells, masks, flight, lens, versions, writes, reads, t, node,
-    );
-    cast(cut, slot, c, flight, t, node, b)
+    let v = vote(slot, c, g, tables, t, node);
+    if cut {
+        return Ok(group::cut_at(v.unwrap_or(0), slot, c));
+    }
+    Ok(cast(slot, c, tables, t, node, v))
 }

@@ -1,34 +1,37 @@
--- Laws for the code: a loop that joins a test's outcomes, and small facts of tests.
+-- Laws for the code: the test of every place of a table, and small facts of tests.
 -- Assumes nothing.
-use mathlib.Core.Path.{◌≡◌, refl, sym}
+use mathlib.Core.Path.{◌≡◌, refl, sym, ap, ◌∙◌}
 use mathlib.Core.Bool.{Bool, true, false, ◌&&◌, beq}
-use Prim.Native.Nat.{ℕ, ◌+◌, ◌/◌, ◌^◌, ◌≤◌, ◌<◌}
-use native.Mathlib.Nat.{div-eq_of_lt, div-eq-sub-div}
+use mathlib.Core.List.{List}
+use Prim.Native.Nat.{ℕ, zero, suc, ◌/◌, ◌^◌, ◌≤◌, ◌<◌}
+use native.Mathlib.Nat.{div-eq_of_lt, div-eq-sub-div, pow-le-pow_right}
 use native.Mathlib.Omega.{arith}
 use native.Mathlib.Numerals.{add-one}
 use lib.Dec.{leb, eqb, ltb}
+use lib.ListN.{length, take}
 use lib.Pow.{pow_pos}
-use borrow.Author.Tests.{leb-true, ltb-true, ltb-false, ne_eqb}
+use borrow.Author.Tests.{leb-true, ltb-true, ltb-false, lt-ltb, ne_eqb}
+use Rattle.std.specs.List.{list_all}
+use Rattle.std.proofs.lemmas.List.{take_all}
+use Rattle.std.proofs.lemmas.List.Folds.{list_all_more}
+use Rattle.tables.specs.Table.{at}
 use Rattle.tables.specs.Loop.{every}
 use Rattle.tables.proofs.Choice.{by_test, and_true}
-use Rattle.tables.proofs.Loop.{every_none, at_end}
 use Rattle.whole.specs.Whole.{same, counts_sound}
 
--- where a loop stands that is to try p at every number below k: i of them are tried, and ok is what they came to
-pub record SoFar (k : ℕ) (p : ℕ → Bool) (ok : Bool) (i : ℕ) : Type 0 where
-  pub inside : i ≤ k
-  pub tried : ok ≡ every i p
+-- the first i elements of a table pass where those at its first i places do
+all_first : {A : Type 0} (p : A → Bool) (d : A) (l : List A) (i : ℕ) → i ≤ length l → list_all p (take i l) ≡ every i (λ j. p (at l j d))
+unfolding every at
+all_first p d l zero h = refl
+all_first p d l (suc i) h = rw (← add-one i, list_all_more p l i d (omega arith), all_first p d l i (omega arith))
 
-module _ {k : ℕ} {p : ℕ → Bool} where
-  pub begun : SoFar k p true 0
-  begun = record { inside = omega arith; tried = sym (every_none p) }
+-- and so all of a table of k places
+pub all_places : {A : Type 0} (p : A → Bool) (d : A) (l : List A) (k : ℕ) → length l ≡ k → list_all p l ≡ every k (λ j. p (at l j d))
+all_places p d l k e = ap (list_all p) (sym (take_all k l (omega arith))) ∙ all_first p d l k (omega arith)
 
-  pub turned : {ok r : Bool} {i : ℕ} → SoFar k p ok i → i < k → r ≡ p i → SoFar k p (ok && r) (i + 1)
-  unfolding every
-  turned s h e = record { inside = omega arith; tried = rw (add-one, s.tried, e) }
-
-  pub ended : {ok : Bool} {i : ℕ} → SoFar k p ok i → k ≤ i → ok ≡ every k p
-  ended s h = at_end (λ j. every j p) _ k s.inside h s.tried
+-- eight bits are below each power of two from the eighth on
+pub below_power : (x n : ℕ) → x < 256 → 8 ≤ n → ltb x (2 ^ n) ≡ true
+below_power x n h l = let q : 2 ^ 8 ≤ 2 ^ n = pow-le-pow_right {n = 2} (omega arith) {i = 8} {j = n} l in lt-ltb _ _ (omega arith)
 
 -- a number has no bit from place n on
 pub shifted_out : (x n : ℕ) → eqb (x / 2 ^ n) 0 ≡ ltb x (2 ^ n)

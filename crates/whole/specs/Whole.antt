@@ -5,7 +5,8 @@ use Rattle.std.specs.Prelude.{Bool, cond, not, ◌&&◌, ◌||◌, List, ℕ, �
 use Rattle.tables.specs.Table.{at}
 use Rattle.tables.specs.Pair.{word}
 use Rattle.tables.specs.Loop.{every}
-use Rattle.chain.specs.Chain.{Chains, len_at, version_at, latest, has_room}
+use Rattle.chain.specs.declared.Chains.{Chains}
+use Rattle.chain.specs.Chain.{len_at, version_at, latest, has_room}
 use Rattle.group.specs.declared.Slot.{Slot}
 use Rattle.group.specs.State.{State, holds, idle, sent, voted_yes, to_apply, finished, tag_at, number_at, unfinished, has, writer, involved, unused, asking, served, voting, committed, aborted, stage_number, ask_of, note_of, final_of, is_fixed, in_stage, no_slot, slot_at}
 

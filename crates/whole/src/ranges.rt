@@ -1,87 +1,56 @@
 // "All counts, masks, stages and numbers lie in the ranges above." Of the stages nothing is left to test: they are an enum.
-ghost use Rattle.std.specs.Prelude.{◌≡◌, ◌≤◌, ◌<◌};
+ghost use Rattle.std.specs.Prelude.{◌≡◌};
 ghost use Rattle.whole.specs.Whole.{counts_sound, mask_sound, masks_sound, entry_sound, row_sound, flight_sound, notes_sound};
+
+use group::{Group, Tables};
 
 pub fn counts_sound(nodes: u8, cells: u8) -> bool
     ensures { result ≡ counts_sound nodes cells }
 {
-    (1 <= nodes) & (nodes <= 8) & (1 <= cells) & (cells <= 32)
+    1 <= nodes && nodes <= 8 && 1 <= cells && cells <= 32
 }
 
-fn wide(x: u8) -> u32
-    ensures { result ≡ x }
+// Some node, and none outside the run. A mask has a bit for each of eight nodes.
+#[tactic(auto, using(crate::proofs::Laws::shifted_out, crate::proofs::Laws::below_power))]
+fn mask_sound(g: &Group, c: u8) -> bool
+    ensures { result ≡ mask_sound g.now.nodes g.now.masks c }
 {
-    x as u32
+    let mask = tables::at(&g.masks, usize::from(c), 0);
+    0 < mask && (8 <= g.nodes || mask >> g.nodes == 0)
 }
 
-// Some node, and none outside the run.
-fn mask_sound(nodes: u8, masks: &[u8; 32], c: u8) -> bool
-    requires { (nodes ≤ 8) × (c < 32) }
-    ensures { result ≡ mask_sound nodes masks.now c }
+pub fn masks_sound(g: &Group) -> bool
+    ensures { result ≡ masks_sound g.now.nodes g.now.cells g.now.masks }
 {
-    let mask = wide(masks[c as usize]);
-    (0 < mask) & (mask >> nodes == 0)
-}
-
-pub fn masks_sound(nodes: u8, cells: u8, masks: &[u8; 32]) -> bool
-    requires { (nodes ≤ 8) × (cells ≤ 32) }
-    ensures { result ≡ masks_sound nodes cells masks.now }
-{
-    let mut ok = true;
-    let mut c: u8 = 0;
-    while c < cells {
-        ok = ok & mask_sound(nodes, masks, c);
-        c = c + 1;
-    }
-    ok
+    (0..g.cells).all(|c| mask_sound(g, c))
 }
 
 // A tag that there is; a number only where the entry is unfinished; nothing at a node outside the run.
-fn entry_sound(nodes: u8, flight: &[u64; 256], t: u8, n: u8) -> bool
-    requires { (t < 32) × (n < 8) }
-    ensures { result ≡ entry_sound nodes flight.now t n }
+#[tactic(auto, unfolding(crate::specs::Whole::entry_sound))]
+fn entry_sound(nodes: u8, tables: &Tables, t: u8, n: u8) -> bool
+    ensures { result ≡ entry_sound nodes tables.now.flight t n }
 {
-    let k = group::tag(flight, t, n);
-    let x = group::number(flight, t, n);
-    (k <= group::FINISHED)
-        & (group::unfinished(flight, t, n) | (x == 0))
-        & (!(nodes <= n) | (k == group::IDLE))
+    let k = tables.tag(t, n);
+    k <= group::FINISHED
+        && (tables.unfinished(t, n) || tables.number(t, n) == 0)
+        && (n < nodes || k == group::IDLE)
 }
 
-fn row_sound(nodes: u8, flight: &[u64; 256], t: u8) -> bool
-    requires { t < 32 }
-    ensures { result ≡ row_sound nodes flight.now t }
+fn row_sound(nodes: u8, tables: &Tables, t: u8) -> bool
+    ensures { result ≡ row_sound nodes tables.now.flight t }
 {
-    let mut ok = true;
-    let mut n: u8 = 0;
-    while n < 8 {
-        ok = ok & entry_sound(nodes, flight, t, n);
-        n = n + 1;
-    }
-    ok
+    (0..8).all(|n| entry_sound(nodes, tables, t, n))
 }
 
-pub fn flight_sound(nodes: u8, flight: &[u64; 256]) -> bool
-    ensures { result ≡ flight_sound nodes flight.now }
+pub fn flight_sound(nodes: u8, tables: &Tables) -> bool
+    ensures { result ≡ flight_sound nodes tables.now.flight }
 {
-    let mut ok = true;
-    let mut t: u8 = 0;
-    while t < 32 {
-        ok = ok & row_sound(nodes, flight, t);
-        t = t + 1;
-    }
-    ok
+    (0..32).all(|t| row_sound(nodes, tables, t))
 }
 
 // Nothing, or one more than a value.
 pub fn notes_sound(table: &[u64; 1024]) -> bool
     ensures { result ≡ notes_sound table.now }
 {
-    let mut ok = true;
-    let mut i: usize = 0;
-    while i < 1024 {
-        ok = ok & (table[i] <= 4294967296);
-        i = i + 1;
-    }
-    ok
+    table.iter().all(|x| *x <= 4294967296)
 }

@@ -1,12 +1,11 @@
 -- `decide::send` meets its contract. The loop's invariant: the nodes passed have been sent to.
 -- Assumes nothing.
-use mathlib.Core.Path.{◌≡◌}
-use Prim.Native.Nat.{◌≤◌, ◌-◌}
+use Rattle.std.specs.Prelude.{◌≡◌}
+use Rattle.group.specs.State.{with_flight}
 use Rattle.decide.specs.Decide.{sent_to}
 use Rattle.decide.proofs.send.Given as goal
 
 abbrev pub invariant-loop-n : goal.invariant-loop-n
-invariant-loop-n l = (l.n ≤ l.nodes) × (l.flight ≡ sent_to l.n l.cells l.masks l.initial.flight l.writes l.reads l.t)
-
-abbrev pub decreases-loop-n : goal.decreases-loop-n
-decreases-loop-n l = l.nodes - l.n
+invariant-loop-n l =
+    l.tables ≡ with_flight l.initial.tables
+    (sent_to l.n l.g.cells l.g.masks l.initial.tables.flight l.initial.tables.writes l.initial.tables.reads l.t)

@@ -1,13 +1,9 @@
 -- `life::clear` meets its contract. The loop's invariant: the cells passed are cleared.
 -- Assumes nothing.
 use mathlib.Core.Path.{◌≡◌}
-use Prim.Native.Nat.{◌≤◌, ◌-◌}
 use Rattle.tables.specs.Pair.{pair}
 use Rattle.tables.specs.Loop.{each}
 use Rattle.life.proofs.clear.Given as goal
 
 abbrev pub invariant-loop-cell : goal.invariant-loop-cell
-invariant-loop-cell l = (l.cell ≤ 32) × (l.table ≡ each 0 l.cell (pair 32 l.t) (λ c e. 0) l.initial.table)
-
-abbrev pub decreases-loop-cell : goal.decreases-loop-cell
-decreases-loop-cell l = 32 - l.cell
+invariant-loop-cell l = l.table ≡ each 0 l.cell (pair 32 l.t) (λ c e. 0) l.initial.table

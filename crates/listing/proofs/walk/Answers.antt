@@ -5,8 +5,8 @@ use Rattle.listing.proofs.walk.Goals as goal
 
 pub lines-requires : goal.lines-requires
 unfolding fresh_of
-lines-requires c = rw c.fresh-start_of.ensures c.requires
+lines-requires c = rw (c.fresh-g.ensures, c.from-count.ensures) c.requires
 
 pub returns : goal.returns
 unfolding fresh_of
-returns c = rw c.fresh-start_of.ensures at c.lines.ensures
+returns c = rw (c.fresh-g.ensures, c.from-count.ensures) at c.lines.ensures

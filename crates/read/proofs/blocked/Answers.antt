@@ -1,21 +1,10 @@
--- `read::blocked` meets its contract.
+-- `read::blocked` meets its contract: a test of each transaction.
 -- Assumes nothing.
-use mathlib.Core.Path.{sym, ◌∙◌}
-use native.Mathlib.Omega.{arith}
-use Rattle.tables.proofs.Loop.{any_none, any_more, any_has, any_end}
+use Rattle.std.proofs.Common.{rules, tests}
+use Rattle.tables.proofs.Ranges.{any_in_range}
 use Rattle.read.specs.Read.{blocked}
 use Rattle.read.proofs.blocked.Goals as goal
 
-pub loop-u-init : goal.loop-u-init
-loop-u-init c = (omega arith, any_none _)
-
-pub returns-then-blocks : goal.returns-then-blocks
-unfolding blocked
-returns-then-blocks c = sym (any_has _ _ _ c.loop-u-test.true (sym c.blocks-in-loop-u.ensures ∙ c.if-blocks.true))
-
-pub loop-u-preserved : goal.loop-u-preserved
-loop-u-preserved c = (omega arith, any_more _ _ c.loop-u.invariant.1 (sym c.blocks-in-loop-u.ensures ∙ c.if-blocks.false))
-
 pub returns : goal.returns
 unfolding blocked
-returns c = sym (any_end _ _ _ c.loop-u.invariant.0 c.loop-u-test.false c.loop-u.invariant.1)
+returns c = any_in_range _ _ _ _ _ c.any.ensures.ran (λ x b q k. search (rules, tests)) cc

@@ -6,5 +6,5 @@ use Rattle.run.proofs.run.Goals as goal
 
 pub returns : goal.returns
 returns g c =
-    whole_text _ _ (c.file_space-file.ensures ∙ sym c.in_ok-n.ensures.len) c.in_ok-n.ensures.in_space.0
-    _ _ c.in_ok-n.ensures.bytes c.in_ok-n.ensures.end _ _ _ c.text_space-text.ensures c.in_ok-show.ensures.longest c.in_ok-show.ensures.printed
+    whole_text _ _ (c.space-file.ensures ∙ sym c.in_ok-n.ensures.len) c.in_ok-n.ensures.in_space.0
+    _ _ c.in_ok-n.ensures.bytes c.in_ok-n.ensures.end _ _ _ c.space-text.ensures c.in_ok-show.ensures.longest c.in_ok-show.ensures.printed

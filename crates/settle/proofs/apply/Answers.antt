@@ -1,16 +1,8 @@
--- `settle::apply` meets its contract: one law for each of its ends.
+-- `settle::apply` meets its contract: the entry found has a place in the tables.
 -- Assumes nothing.
-use Rattle.settle.proofs.Laws.{found_at}
+use Rattle.std.proofs.Common.{sym, ◌∙◌}
+use Rattle.settle.proofs.Laws.{least_below}
 use Rattle.settle.proofs.apply.Goals as goal
 
-pub tag-requires : goal.tag-requires
-tag-requires c = ((found_at _ _ _ _ _ c.in-At.is c.least-found.ensures).2, c.requires.1)
-
 pub store-requires : goal.store-requires
-store-requires c =
-    let p = c.requires in
-    (p.0, (found_at _ _ _ _ _ c.in-At.is c.least-found.ensures).2, p.1, λ i h. p.2 _ i (found_at _ _ _ _ _ c.in-At.is c.least-found.ensures).2 h)
-
-pub enter-requires : goal.enter-requires
-enter-requires c =
-    ((found_at _ _ _ _ _ c.in-At.is c.least-found.ensures).2, c.requires.1)
+store-requires c = λ k h. c.requires _ k (least_below _ _ _ (sym c.least.ensures ∙ c.in-Some.is)) h

@@ -1,22 +1,18 @@
--- `settle::least` meets its contract.
+-- `settle::least` meets its contract: a filter of the transactions, and their numbers.
 -- Assumes nothing.
-use mathlib.Core.Path.{refl, sym}
-use native.Mathlib.Omega.{arith}
-use Rattle.settle.proofs.Laws.{least_none, least_turn, least_end}
+use Rattle.std.proofs.Common.{rules, tests, arith}
+use Rattle.std.proofs.lemmas.Iterator.{YieldsList-from_range}
+use Rattle.std.proofs.lemmas.Iterator.Consumers.{YieldsList-from_filter}
+use Rattle.group.specs.State.{number_at, unfinished}
+use Rattle.settle.specs.Settle.{least}
+use Rattle.settle.proofs.Lowest.{least_in_range}
 use Rattle.settle.proofs.least.Goals as goal
 
-pub loop-t-init : goal.loop-t-init
-loop-t-init c = (omega arith, sym (least_none _ _), refl)
-
-pub closer-best-requires : goal.closer-best-requires
-closer-best-requires c = (omega arith, omega arith, c.loop-t.invariant.2)
-
-pub loop-t-preserved : goal.loop-t-preserved
-loop-t-preserved c =
-    let l = c.loop-t in
-    (omega arith, least_turn _ _ _ l.best c.closer-best.result l.invariant.1 c.closer-best.ensures, c.closer-best.ensures.1)
-
 pub returns : goal.returns
+unfolding least
 returns c =
-    let l = c.loop-t in
-    least_end _ _ _ l.best l.invariant.0 c.loop-t-test.false l.invariant.1 l.invariant.2
+    let flight = c.args.tables.now.flight in
+    let n = c.args.node in
+    least_in_range _ (λ t. number_at flight t n) _ (λ x k q h. search rules) (λ t. unfinished flight t n) 32 _ _ c.min_by_key.ensures.ran
+    (YieldsList-from_filter _ (λ t. unfinished flight t n) (YieldsList-from_range 0 32 32 (cc) (omega arith)) c.filter.ensures.closure
+    (λ x b q h. search (rules, tests)))

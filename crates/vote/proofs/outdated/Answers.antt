@@ -1,21 +1,10 @@
--- `vote::outdated` meets its contract.
+-- `vote::outdated` meets its contract: a test of each cell.
 -- Assumes nothing.
-use mathlib.Core.Path.{sym, ◌∙◌}
-use native.Mathlib.Omega.{arith}
-use Rattle.tables.proofs.Loop.{any_none, any_more, any_has, any_end}
+use Rattle.std.proofs.Common.{rules, tests}
+use Rattle.tables.proofs.Ranges.{any_in_range}
 use Rattle.vote.specs.Vote.{outdated}
 use Rattle.vote.proofs.outdated.Goals as goal
 
-pub loop-cell-init : goal.loop-cell-init
-loop-cell-init c = (omega arith, any_none _)
-
-pub returns-then-behind : goal.returns-then-behind
-unfolding outdated
-returns-then-behind c = sym (any_has _ _ _ c.loop-cell-test.true (sym c.behind.ensures ∙ c.if-behind.true))
-
-pub loop-cell-preserved : goal.loop-cell-preserved
-loop-cell-preserved c = (omega arith, any_more _ _ c.loop-cell.invariant.1 (sym c.behind.ensures ∙ c.if-behind.false))
-
 pub returns : goal.returns
 unfolding outdated
-returns c = sym (any_end _ _ _ c.loop-cell.invariant.0 c.loop-cell-test.false c.loop-cell.invariant.1)
+returns c = any_in_range _ _ _ _ _ c.any.ensures.ran (λ x b q k. search (rules, tests)) cc

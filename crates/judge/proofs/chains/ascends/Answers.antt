@@ -1,13 +1,8 @@
--- `judge::chains::ascends` meets its contract: the steps from a version to the next are tried.
+-- `judge::chains::ascends` meets its contract: a test of each version before the last.
 -- Assumes nothing.
-use Rattle.whole.proofs.Laws.{begun, turned, ended}
+use Rattle.std.proofs.Common.{rules, tests}
+use Rattle.tables.proofs.Ranges.{all_in_range}
 use Rattle.judge.proofs.chains.ascends.Goals as goal
 
-pub loop-i-init : goal.loop-i-init
-loop-i-init c = begun
-
-pub loop-i-preserved : goal.loop-i-preserved
-loop-i-preserved c = turned c.loop-i.invariant c.loop-i-test.true (rw (c.number.ensures, c.number-x.ensures))
-
 pub returns : goal.returns
-returns c = ended c.loop-i.invariant c.loop-i-test.false
+returns c = all_in_range _ _ _ _ _ c.all.ensures.ran (λ x b q k. search (rules, tests)) cc

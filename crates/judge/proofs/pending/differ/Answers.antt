@@ -1,13 +1,8 @@
--- `judge::pending::differ` meets its contract: the transactions passed are tried.
+-- `judge::pending::differ` meets its contract: a test of each transaction before.
 -- Assumes nothing.
-use Rattle.whole.proofs.Laws.{begun, turned, ended}
+use Rattle.std.proofs.Common.{rules, tests}
+use Rattle.tables.proofs.Ranges.{all_in_range}
 use Rattle.judge.proofs.pending.differ.Goals as goal
 
-pub loop-u-init : goal.loop-u-init
-loop-u-init c = begun
-
-pub loop-u-preserved : goal.loop-u-preserved
-loop-u-preserved c = turned c.loop-u.invariant c.loop-u-test.true (rw (c.unfinished.ensures, c.number-y.ensures, c.number-x.ensures))
-
 pub returns : goal.returns
-returns c = ended c.loop-u.invariant c.loop-u-test.false
+returns c = all_in_range _ _ _ _ _ c.all.ensures.ran (λ x b q k. search (rules, tests)) cc

@@ -1,13 +1,8 @@
--- `judge::pending::node_sound` meets its contract: the entries of the transactions passed are tried.
+-- `judge::pending::node_sound` meets its contract: a test of each transaction.
 -- Assumes nothing.
-use Rattle.whole.proofs.Laws.{begun, turned, ended}
+use Rattle.std.proofs.Common.{rules, tests}
+use Rattle.tables.proofs.Ranges.{all_in_range}
 use Rattle.judge.proofs.pending.node_sound.Goals as goal
 
-pub loop-t-init : goal.loop-t-init
-loop-t-init c = begun
-
-pub loop-t-preserved : goal.loop-t-preserved
-loop-t-preserved c = turned c.loop-t.invariant c.loop-t-test.true c.pending_sound-ok.ensures
-
 pub returns : goal.returns
-returns c = ended c.loop-t.invariant c.loop-t-test.false
+returns c = all_in_range _ _ _ _ _ c.all.ensures.ran (λ x b q k. search (rules, tests)) cc

@@ -1,13 +1,8 @@
--- `whole::entries::unapplying` meets its contract: the entries of the nodes passed are tried.
+-- `whole::entries::unapplying` meets its contract: a test of each node.
 -- Assumes nothing.
-use Rattle.whole.proofs.Laws.{begun, turned, ended}
+use Rattle.std.proofs.Common.{rules, tests}
+use Rattle.tables.proofs.Ranges.{all_in_range}
 use Rattle.whole.proofs.entries.unapplying.Goals as goal
 
-pub loop-n-init : goal.loop-n-init
-loop-n-init c = begun
-
-pub loop-n-preserved : goal.loop-n-preserved
-loop-n-preserved c = turned c.loop-n.invariant c.loop-n-test.true (rw c.tag.ensures)
-
 pub returns : goal.returns
-returns c = ended c.loop-n.invariant c.loop-n-test.false
+returns c = all_in_range _ _ _ _ _ c.all.ensures.ran (λ x b q k. search (rules, tests)) cc

@@ -1,0 +1,10 @@
+-- `group::Tables::writer` meets its contract: a test of each cell.
+-- Assumes nothing.
+use Rattle.std.proofs.Common.{rules, tests}
+use Rattle.tables.proofs.Ranges.{any_in_range}
+use Rattle.group.specs.State.{writer}
+use Rattle.group.proofs.Tables.writer.Goals as goal
+
+pub returns : goal.returns
+unfolding writer
+returns c = any_in_range _ _ _ _ _ c.any.ensures.ran (λ x b q k. search (rules, tests)) cc

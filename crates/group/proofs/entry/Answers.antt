@@ -1,9 +1,0 @@
--- `group::entry` meets its contract: what stands at the place.
--- Assumes nothing.
-use mathlib.Core.Path.{refl}
-use Rattle.tables.specs.Table.{at}
-use Rattle.group.proofs.entry.Goals as goal
-
-pub returns : goal.returns
-unfolding at
-returns c = refl
