@@ -1,4 +1,4 @@
-// Step 3, ask. It takes the transaction's slot and the origin's counters, and gives both anew with its answer; the tables are looked at where
+// Step 3, ask. It takes the transaction's slot and the origin's counters, and gives both anew with its answer, or refuses; the tables are looked at where
 // they lie. The step is refused first, in the order of the codes; then it is cut, or whole.
 #![tactic(auto)]
 

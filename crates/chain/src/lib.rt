@@ -46,7 +46,7 @@ impl Chains {
         if n <= 8 { n } else { 0 }
     }
 
-    // Version i of a chain, from the oldest on.
+    // Version i of a chain, from the oldest on; with an i of 8 and above, one of a later chain.
     #[tactic(auto, unfolding(crate::specs::Chain::version_at))]
     pub fn version(&self, cell: u8, node: u8, i: u8) -> Version
         ensures { result ≡ version_at self.now.versions cell node i }

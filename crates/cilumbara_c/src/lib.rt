@@ -1,4 +1,4 @@
-// The library for firmware as C calls it: each function hands its bytes to the one of the same name in cilumbara, and promises the same. A
+// The library for firmware as C calls it: each function hands its bytes to the one of the same name in cilumbara, and promises the same, a fault told as its number. A
 // slice is a pointer and then a length. The header is include/cilumbara.h.
 #![tactic(auto)]
 

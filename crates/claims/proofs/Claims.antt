@@ -30,8 +30,9 @@ use Rattle.runfile.specs.declared.Fault.{Fault}
 use Rattle.runfile.specs.File.{File, got, fault, bytes_of, read_file}
 use Rattle.runfile.specs.Head.{head_of}
 use Rattle.runfile.proofs.BothWays.{Sound, read_written, written_read, one_run, one_file, Outcome, outcome, not_both_ways, one_fault}
-use Rattle.runwrite.specs.Writing.{file_of}
+use Rattle.runwrite.specs.Writing.{word_of, step_of as step_in, file_of}
 use Rattle.runwrite.proofs.Back.{file_back}
+use Rattle.runwrite.proofs.Words.{word_step}
 use Rattle.runfile.proofs.Longer.{longer_input}
 use Rattle.text.specs.Text.{decimal, placed}
 use Rattle.text.proofs.Digits.{decimal_first, decimal_only}
@@ -115,6 +116,9 @@ one_fault_only = one_fault
 -- Every run can be handed to the writer, as its head and its steps.
 pub every_run_written : (f : File) → file_of (head_of f) f.steps ≡ f
 every_run_written = file_back
+
+pub one_number_a_step : (w : ℕ) → word_of (step_in w) ≡ w
+one_number_a_step = word_step
 
 -- What storing a number of k bytes means: it is read back from there, and every byte before it and past it is as it was.
 pub stored_means :

@@ -24,7 +24,7 @@ use Rattle.score.specs.Steps.{step_whole, step_of}
 use Rattle.runfile.proofs.Examples.{nothing_there, no_nodes, nine_nodes}
 use Rattle.claims.specs.Runs.{answers, replies}
 use Rattle.claims.specs.Example.{AllHold, Holds}
-use Rattle.claims.specs.Tables.{verdict}
+use Rattle.claims.specs.Tables.{faulted}
 use Rattle.claims.specs.Starred.{starred}
 use Rattle.claims.specs.Pinned.{crammed, pinned}
 
@@ -36,7 +36,7 @@ definitions = tt
 -- one by one, since what one declaration may compute is bounded
 starred_hold : AllHold starred
 unfolding definitions
-starred_hold = (refl, (refl, (refl, (refl, (refl, (refl, (refl, (refl, (refl, (refl, (ap verdict nothing_there, (ap verdict (no_nodes []), (ap verdict (nine_nodes []), tt)))))))))))))
+starred_hold = (refl, (refl, (refl, (refl, (refl, (refl, (refl, (refl, (refl, (refl, (ap faulted nothing_there, (ap faulted (no_nodes []), (ap faulted (nine_nodes []), tt)))))))))))))
 
 full_chain : Holds crammed
 unfolding definitions

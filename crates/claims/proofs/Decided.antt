@@ -6,6 +6,11 @@ use mathlib.Core.List.{List}
 use Prim.Native.Nat.{ℕ}
 use denote.Ref.{Bor}
 use Rattle.chain.specs.Chain.{chains}
+use Rattle.group.specs.declared.Group.{Group}
+use Rattle.group.specs.declared.Tables.{Tables}
+use Rattle.group.specs.declared.Turn.{Turn}
+use Rattle.group.specs.State.{state_of}
+use Rattle.desk.specs.Parts.{outcome}
 use Rattle.little.specs.Little.{Tail}
 use Rattle.runfile.specs.Parts.{StepsPart}
 
@@ -17,6 +22,18 @@ same x y z p q = p ∙ sym q
 -- chains are their two tables
 pub same_chains : (lens lens' versions versions' : List ℕ) → chains lens versions ≡ chains lens' versions' → (lens ≡ lens') × (versions ≡ versions')
 same_chains lens lens' versions versions' e = (ap (λ c. c.lens) e, ap (λ c. c.versions) e)
+
+-- a state is its group and its tables
+pub same_state : (g g' : Group) (t t' : Tables) → state_of g t ≡ state_of g' t' → (g ≡ g') × (t ≡ t')
+same_state g g' t t' e =
+    (ap (λ s. s.group) e, ap (λ s. record { flight = s.flight; chains = s.chains; writes = s.writes; reads = s.reads }) e)
+
+-- what a step comes to on a desk is its turn and the tables after it
+pub same_outcome : (g : Group) (r r' : Turn) (t t' : Tables) → outcome r g t ≡ outcome r' g t' → (r ≡ r') × (t ≡ t')
+same_outcome g r r' t t' e = (
+  ap (λ o. record { answer = o.answer; slot = o.desk.slot; counters = o.desk.counters }) e,
+  ap (λ o. record { flight = o.desk.flight; chains = o.desk.chains; writes = o.desk.writes; reads = o.desk.reads }) e,
+)
 
 -- ---- parts of lent bytes: the same bytes at the same place in the caller's memory
 

@@ -1,6 +1,6 @@
 -- Examples: what each says of the definitions.
 -- Assumes nothing.
-use Rattle.std.specs.Prelude.{◌≡◌, List, [], ◌∷◌, ℕ, Option}
+use Rattle.std.specs.Prelude.{◌≡◌, List, [], ◌∷◌, ℕ, Option, Some}
 use Rattle.number.specs.Proposal.{proposal}
 use Rattle.counters.specs.declared.Counters.{Counters}
 use Rattle.kinds.specs.declared.Step.{Step}
@@ -9,7 +9,7 @@ use Rattle.group.specs.Answer.{Said, said}
 use Rattle.score.specs.Steps.{step_of}
 use Rattle.runfile.specs.File.{read_file}
 use Rattle.claims.specs.Runs.{answers, replies}
-use Rattle.claims.specs.Tables.{verdict}
+use Rattle.claims.specs.Tables.{faulted}
 
 pub data Example : Type 0 where
   faults : (bytes : List ℕ) → (code : ℕ) → Example
@@ -19,7 +19,7 @@ pub data Example : Type 0 where
   leaves : State → Step → Said → (node : ℕ) → Counters → Example
 
 abbrev pub Holds : Example → Type 0
-Holds (faults b c) = verdict (read_file b) ≡ c
+Holds (faults b c) = faulted (read_file b) ≡ Some c
 Holds (proposes n c r) = proposal n c ≡ r
 Holds (runs s xs r) = answers s xs ≡ r
 Holds (inner s xs r) = replies s xs ≡ r

@@ -1,6 +1,6 @@
 -- The paper's tables and limits, entry by entry: which fields each kind uses, the faults of a file, the code of each answer.
 -- Assumes nothing.
-use Rattle.std.specs.Prelude.{◌≡◌, List, [], ◌∷◌, ◌++◌, map, ℕ, ◌*◌, replicate}
+use Rattle.std.specs.Prelude.{◌≡◌, List, [], ◌∷◌, ◌++◌, map, ℕ, ◌*◌, replicate, Option, None, Some}
 use Rattle.group.specs.declared.Refusal.TheVariants.{WrongStage}
 use Rattle.group.specs.declared.Answer.{Answer}
 use Rattle.group.specs.declared.Answer.TheVariants.{Done, Value, Wait, Yes, No, Committed, Aborted, Cut, Refused}
@@ -11,6 +11,11 @@ use Rattle.runfile.specs.File.{File, Read, code_of, got, fault, read_file}
 abbrev pub verdict : Read File → ℕ
 verdict (got f rest) = 0
 verdict (fault c) = code_of c
+
+-- the number of a file's fault; none for a sound one
+abbrev pub faulted : Read File → Option ℕ
+faulted (got f rest) = None
+faulted (fault c) = Some (code_of c)
 
 unfoldable pub fault_in : List ℕ → ℕ
 fault_in b = verdict (read_file b)

@@ -42,7 +42,8 @@ fn kind_of(nodes: u8, cells: u8, x: Step) -> Result<Kind, Refusal>
     Ok(kind)
 }
 
-// What a step comes to that is not refused for its fields: each kind's function gets what it needs.
+// What a step comes to that is not refused for its fields: each kind's function gets what it needs. A match, since each needs something else,
+// which a table of functions would have to give to all.
 fn by_kind(
     kind: Kind,
     x: Step,

@@ -1,5 +1,5 @@
 // The state of a group: its small typed part, and its tables, which are changed where they lie; what a step answers. Every function takes any
-// slot, node and cell: where there is no such place, what stands there is nothing, and nothing is written.
+// numbers, as the definitions do: a node of 8 and above or a cell of 32 and above is the place of a later row, or none past the table's end.
 #![tactic(auto)]
 
 ghost use Rattle.std.specs.Prelude.{◌≡◌, ◌/◌, ◌%◌, ◌^◌, eqb};
@@ -12,22 +12,7 @@ ghost use Rattle.group.specs.declared.Answer.TheVariants.{Done as IsDone};
 use chain::Chains;
 use counters::Counters;
 
-// The stages by number.
-pub const UNUSED: u8 = 0;
-
-pub const OPEN: u8 = 1;
-
-pub const ASKING: u8 = 2;
-
-pub const SERVED: u8 = 3;
-
-pub const VOTING: u8 = 4;
-
-pub const COMMITTED: u8 = 5;
-
-pub const ABORTED: u8 = 6;
-
-// The tags of flight entries.
+// The tags of flight entries, numbers since a table handed in may hold any: `whole` tests that it is one of these.
 pub const IDLE: u32 = 0;
 
 pub const SENT: u32 = 1;
@@ -195,7 +180,7 @@ pub fn cut_at(k: u32, slot: Slot, c: Counters) -> Turn
     }
 }
 
-// The same of a step that moves no counter: one that is to rise to 0 at least stands as it is.
+// The same of a step that moves no counter: one that is to rise to 0 at least stands as it is, and is not looked at.
 pub fn cut_still(slot: Slot, c: Counters) -> Turn
     ensures { result ≡ cut_turn slot c 0 }
 {
@@ -208,17 +193,18 @@ pub fn cut_still(slot: Slot, c: Counters) -> Turn
 
 // ---- slots
 
+// The stages by number, as the rules compare them.
 pub fn stage_number(st: Stage) -> u8
     ensures { result ≡ stage_number st }
 {
     match st {
-        Stage::Unused => UNUSED,
-        Stage::Open => OPEN,
-        Stage::Asking(_) => ASKING,
-        Stage::Served(_) => SERVED,
-        Stage::Voting => VOTING,
-        Stage::Committed(_) => COMMITTED,
-        Stage::Aborted => ABORTED,
+        Stage::Unused => 0,
+        Stage::Open => 1,
+        Stage::Asking(_) => 2,
+        Stage::Served(_) => 3,
+        Stage::Voting => 4,
+        Stage::Committed(_) => 5,
+        Stage::Aborted => 6,
     }
 }
 

@@ -1,5 +1,5 @@
 // Reading: rule A, serve, and rule B, return. Each takes the transaction's slot and the counters of the one node that it may move, and
-// gives both anew with its answer; the tables are looked at, and the reads changed, where they lie. A step is refused first; then it is cut,
+// gives both anew with its answer, or refuses; the tables are looked at, and the reads changed, where they lie. A step is refused first; then it is cut,
 // or whole.
 #![tactic(auto)]
 

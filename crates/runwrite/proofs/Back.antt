@@ -49,7 +49,7 @@ cells_back k cs =
     at_firsts (length cs) g i no_cell l
     ∙ rw (at_mapped k (λ (c : Cell). c.mask) cs i refl l, at_mapped k (λ (c : Cell). c.value) cs i refl l))
 
--- every sound run is written from its head and its steps
+-- every run is written from its head and its steps
 pub file_back : (f : File) → file_of (head_of f) f.steps ≡ f
 unfolding file_of head_of
 file_back f = rw (counters_back 8 f.counters, cells_back 32 f.cells)

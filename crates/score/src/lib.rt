@@ -14,7 +14,7 @@ use counters::Counters;
 use group::{Answer, Group, Refusal, Slot, Tables};
 use kinds::{Kind, Step};
 
-// The node whose counters a step of the kind may move.
+// The node whose counters a step of the kind may move: a match, as the definition has it.
 fn node_of(kind: Kind, slot: Slot, node: u8) -> u8
     ensures { result ≡ node_of kind slot node }
 {

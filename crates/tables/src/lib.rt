@@ -1,5 +1,5 @@
-// The words that every definition above this crate is written in (specs/), their laws (proofs/), and the functions of the same names for
-// code: a table read and written at any place, and two numbers in one word.
+// The words that every definition above this crate is written in (specs/), their laws (proofs/), and what of them code has too:
+// a table read and written at any place, and two numbers in one word.
 #![tactic(auto)]
 
 ghost use Rattle.std.specs.Prelude.{◌≡◌, ◌/◌, ◌%◌};

@@ -1,5 +1,6 @@
 // Is a state whole? The paper's paragraph, a module for each of its sentences: here what it says of counts, masks, transactions and their
-// flight entries. Every function takes any state: what a count names outside a table is nothing.
+// flight entries. Every function takes any state; the counts are tested beside
+// the rest, in `judge::whole`.
 #![tactic(auto)]
 
 mod entries;
