@@ -15,7 +15,6 @@ use Rattle.kinds.specs.declared.Step.{Step}
 use Rattle.kinds.specs.declared.Kind.{Kind}
 use Rattle.group.specs.declared.Group.{Group}
 use Rattle.group.specs.declared.Tables.{Tables}
-use Rattle.group.specs.declared.Refusal.TheVariants.{NotWhole}
 use Rattle.group.specs.declared.Answer.{Answer}
 use Rattle.group.specs.declared.Answer.TheVariants.{Cut, Refused}
 use Rattle.group.specs.State.{State}
@@ -175,7 +174,7 @@ serial_statement = serial
 
 -- Never 15: no step of such a run answers it, and the step that doesn't test for a whole state is the step.
 pub never_15 : (nodes cells : ℕ) (counters masks values : List ℕ) → SoundGroup nodes cells counters masks values → (xs : List Step) → Steps32 xs → (x : Step)
-    → (step_of (run_of (start nodes cells counters masks values) xs).state x).answer ≢ Refused NotWhole
+    → (step_of (run_of (start nodes cells counters masks values) xs).state x).answer ≢ Refused 15
 never_15 = Never.never_15
 
 pub inner_step : (nodes cells : ℕ) (counters masks values : List ℕ) → SoundGroup nodes cells counters masks values → (xs : List Step) → Steps32 xs → (x : Step)

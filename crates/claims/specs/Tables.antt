@@ -1,7 +1,6 @@
 -- The paper's tables and limits, entry by entry: which fields each kind uses, the faults of a file, the code of each answer.
 -- Assumes nothing.
 use Rattle.std.specs.Prelude.{◌≡◌, List, [], ◌∷◌, ◌++◌, map, ℕ, ◌*◌, replicate, Option, None, Some}
-use Rattle.group.specs.declared.Refusal.TheVariants.{WrongStage}
 use Rattle.group.specs.declared.Answer.{Answer}
 use Rattle.group.specs.declared.Answer.TheVariants.{Done, Value, Wait, Yes, No, Committed, Aborted, Cut, Refused}
 use Rattle.group.specs.Answer.{Said, says, said}
@@ -88,7 +87,7 @@ codes = 0 ∷ 0 ∷ 32 ∷ 32 ∷ 32 ∷ 32 ∷ 32 ∷ 33 ∷ 33 ∷ 33 ∷ 33 �
 
 -- code, number and value of each answer
 abbrev pub replies : List Answer
-replies = Done 7 ∷ Value 7 9 ∷ Wait 7 ∷ Yes 7 ∷ No 2 ∷ Committed 7 ∷ Aborted ∷ Cut ∷ Refused WrongStage ∷ []
+replies = Done 7 ∷ Value 7 9 ∷ Wait 7 ∷ Yes 7 ∷ No 2 ∷ Committed 7 ∷ Aborted ∷ Cut ∷ Refused 19 ∷ []
 
 abbrev pub replied : List Said
 replied = says 0 7 0 ∷ says 1 7 9 ∷ says 2 7 0 ∷ says 3 7 0 ∷ says 4 2 0 ∷ says 5 7 0 ∷ says 6 0 0 ∷ says 7 0 0 ∷ says 19 0 0 ∷ []

@@ -20,7 +20,7 @@ use Rattle.group.specs.declared.Turn.{Turn}
 use Rattle.group.specs.declared.Refusal.{Refusal}
 use Rattle.group.specs.declared.Refusal.TheVariants.{NoKind, NoNode, NoPlace}
 use Rattle.group.specs.declared.Answer.TheVariants.{Cut}
-use Rattle.group.specs.Answer.{told, refused_turn, stepped, changed}
+use Rattle.group.specs.Answer.{code, told, refused_turn, stepped, changed}
 use Rattle.desk.specs.Desk.{Desk, desk_on, turned, with_counters}
 use Rattle.desk.specs.Acts.{field_tests, needs, does, rise, cuts, judge, act}
 use Rattle.desk.specs.Parts.{field_refusal, unless, outcome}
@@ -85,7 +85,7 @@ module _ (g : Group) (tables : Tables) (slot : Slot) (c : Counters) where
 
   module _ (x : Step) where
     pub act_refused :
-        (why : Refusal) → field_refusal g.nodes g.cells x ≡ Some why → (r : Turn) → r ≡ refused_turn why slot c
+        (why : Refusal) → field_refusal g.nodes g.cells x ≡ Some why → (r : Turn) → r ≡ refused_turn (code why) slot c
         → outcome r g tables ≡ act q x
     unfolding act
     act_refused why e r p = rw (p, fields_fail g.nodes g.cells x (needs q x (named x.kind)) why e)

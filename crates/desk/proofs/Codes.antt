@@ -82,7 +82,7 @@ Answered (No r) = Unit {0}
 Answered (Committed k) = Unit {0}
 Answered Aborted = Unit {0}
 Answered Cut = Unit {0}
-Answered (Refused r) = (16 ≤ code r) × (code r ≤ 24)
+Answered (Refused c) = (16 ≤ c) × (c ≤ 24)
 
 voted : (q : Desk) (v : Vote) → Answered (prepare_turn q.slot q.counters v).answer
 voted q (Ok k) = tt

@@ -11,6 +11,7 @@ use Rattle.group.specs.declared.Refusal.{Refusal}
 use Rattle.group.specs.declared.Refusal.TheVariants.{NoKind, NoNode, NoPlace}
 use Rattle.group.specs.declared.Answer.TheVariants.{Cut, Refused}
 use Rattle.group.specs.State.{writer, ask_of, note_of, final_of}
+use Rattle.group.specs.Answer.{code}
 use Rattle.life.specs.Life.{begin_tests, begin_turn, cleared, write_tests, write_turn, written, give_up_tests, abandon_tests, end_turn}
 use Rattle.ask.specs.Ask.{ask_tests, ask_turn}
 use Rattle.read.specs.Read.{serve_tests, read_at, serve_turn, return_tests, return_turn, return_reads}
@@ -98,13 +99,13 @@ cuts q x k = record { answer = Cut; desk = with_counters q (counted_to q.counter
 
 -- ---- the step
 
-abbrev pub refuses : Desk → Refusal → Outcome
-refuses q why = record { answer = Refused why; desk = q }
+abbrev pub refuses : Desk → ℕ → Outcome
+refuses q c = record { answer = Refused c; desk = q }
 
 -- what is judged, and where nothing fails, what is done
 abbrev pub judge : Option Refusal → Desk → Outcome → Outcome
 judge None q o = o
-judge (Some why) q o = refuses q why
+judge (Some why) q o = refuses q (code why)
 
 unfoldable pub act : Desk → Step → Outcome
 act q x =

@@ -90,6 +90,6 @@ pub fn act(x: Step, slot: Slot, c: Counters, g: &Group, tables: &mut Tables) -> 
 {
     match judged(x, slot, c, g, tables) {
         Ok(turn) => turn,
-        Err(why) => group::refused(why, slot, c),
+        Err(why) => group::refused(why.code(), slot, c),
     }
 }

@@ -41,14 +41,14 @@ said (No reason) = says 4 reason 0
 said (Committed k) = says 5 k 0
 said Aborted = says 6 0 0
 said Cut = says 7 0 0
-said (Refused r) = says (code r) 0 0
+said (Refused c) = says c 0 0
 
 abbrev pub turn : Answer → Slot → Counters → Turn
 turn a x c = record { answer = a; slot = x; counters = c }
 
 -- a refusal moves nothing
-abbrev pub refused_turn : Refusal → Slot → Counters → Turn
-refused_turn r x k = turn (Refused r) x k
+abbrev pub refused_turn : ℕ → Slot → Counters → Turn
+refused_turn c x k = turn (Refused c) x k
 
 -- the step cut by power loss: the counter is written as the whole step would write it, to k at least, and nothing else changes
 abbrev pub cut_turn : Slot → Counters → ℕ → Turn
@@ -59,10 +59,10 @@ abbrev pub stepped : Option Refusal → Bool → Slot → Counters → ℕ → T
 stepped None cut x c k t = Ok (cond cut (cut_turn x c k) t)
 stepped (Some r) cut x c k t = Err r
 
--- the same as a turn, where a refusal is an answer
+-- the same as a turn, where a refusal is an answer: its code
 abbrev pub told : Result Turn Refusal → Slot → Counters → Turn
 told (Ok t) x k = t
-told (Err r) x k = refused_turn r x k
+told (Err r) x k = refused_turn (code r) x k
 
 -- a table after it: changed by a whole step that is not refused
 abbrev pub changed : {A : Type 0} → Option Refusal → Bool → A → A → A

@@ -126,7 +126,7 @@ impl Refusal {
     }
 }
 
-// What a step answers.
+// What a step answers, in the paper's numbers: a no has its reason, a refusal its code.
 #[derive(Clone, Copy)]
 pub enum Answer {
     Done(u32),
@@ -137,7 +137,7 @@ pub enum Answer {
     Committed(u32),
     Aborted,
     Cut,
-    Refused(Refusal),
+    Refused(u32),
 }
 
 // What a step makes of the one slot and the one node's counters that it moves.
@@ -148,11 +148,11 @@ pub struct Turn {
     pub counters: Counters,
 }
 
-pub fn refused(why: Refusal, slot: Slot, counters: Counters) -> Turn
-    ensures { result ≡ refused_turn why slot counters }
+pub fn refused(code: u32, slot: Slot, counters: Counters) -> Turn
+    ensures { result ≡ refused_turn code slot counters }
 {
     Turn {
-        answer: Answer::Refused(why),
+        answer: Answer::Refused(code),
         slot,
         counters,
     }

@@ -33,7 +33,7 @@ impl From<Answer> for Reply {
             Answer::Committed(k) => (5, k, 0),
             Answer::Aborted => (6, 0, 0),
             Answer::Cut => (7, 0, 0),
-            Answer::Refused(why) => (why.code(), 0, 0),
+            Answer::Refused(code) => (code, 0, 0),
         };
         Reply {
             code,

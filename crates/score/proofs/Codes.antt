@@ -8,7 +8,7 @@ use Rattle.group.specs.declared.Refusal.TheVariants.{NotWhole}
 use Rattle.group.specs.declared.Answer.{Answer}
 use Rattle.group.specs.declared.Answer.TheVariants.{Done, Value, Wait, Yes, No, Committed, Aborted, Cut, Refused}
 use Rattle.group.specs.State.{State}
-use Rattle.group.specs.Answer.{said}
+use Rattle.group.specs.Answer.{code, said}
 use Rattle.whole.specs.Whole.{whole}
 use Rattle.score.specs.Place.{desk_of}
 use Rattle.desk.specs.Acts.{act}
@@ -30,6 +30,6 @@ pub code_low : (s : State) (x : Step) → (said (step_of s x).answer).code ≤ 2
 unfolding step_of step_whole
 code_low s x = go (whole s)
   where
-    go : (w : Bool) → (said (cond w (step_whole s x) (record { answer = Refused NotWhole; state = s })).answer).code ≤ 24
+    go : (w : Bool) → (said (cond w (step_whole s x) (record { answer = Refused (code NotWhole); state = s })).answer).code ≤ 24
     go true = low (act (desk_of s x) x).answer (answered (desk_of s x) x)
     go false = omega arith

@@ -6,6 +6,7 @@ use Rattle.group.specs.declared.Refusal.TheVariants.{NotWhole}
 use Rattle.group.specs.declared.Answer.{Answer}
 use Rattle.group.specs.declared.Answer.TheVariants.{Refused}
 use Rattle.group.specs.State.{State}
+use Rattle.group.specs.Answer.{code}
 use Rattle.whole.specs.Whole.{whole}
 use Rattle.desk.specs.Acts.{act}
 use Rattle.score.specs.Place.{desk_of, put_back}
@@ -20,4 +21,4 @@ step_whole s x = let o = act (desk_of s x) x in record { answer = o.answer; stat
 
 -- the step of any state
 unfoldable pub step_of : State → Step → Stepped
-step_of s x = cond (whole s) (step_whole s x) (record { answer = Refused NotWhole; state = s })
+step_of s x = cond (whole s) (step_whole s x) (record { answer = Refused (code NotWhole); state = s })

@@ -51,11 +51,12 @@ pub fn step_whole(g: &mut Group, tables: &mut Tables, x: Step) -> Answer
 }
 
 // The step of any state: refused with 15 where it is not whole.
+#[tactic(auto, unfolding(crate::specs::Steps::step_of))]
 pub fn step(g: &mut Group, tables: &mut Tables, x: Step) -> Answer
     ensures { reached result g.new tables.new ≡ step_of (state_of g.old tables.old) x }
 {
     if !judge::whole(g, tables) {
-        return Answer::Refused(Refusal::NotWhole);
+        return Answer::Refused(Refusal::NotWhole.code());
     }
     step_whole(g, tables, x)
 }

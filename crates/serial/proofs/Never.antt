@@ -9,7 +9,6 @@ use Prim.Native.Nat.{ℕ, ◌≤◌}
 use native.Mathlib.Omega.{arith}
 use Rattle.tables.specs.Table.{at}
 use Rattle.kinds.specs.declared.Step.{Step}
-use Rattle.group.specs.declared.Refusal.TheVariants.{NotWhole}
 use Rattle.group.specs.declared.Answer.TheVariants.{Refused}
 use Rattle.group.specs.State.{State}
 use Rattle.whole.specs.Whole.{whole}
@@ -65,7 +64,7 @@ module _ (nodes cells : ℕ) (counters masks values : List ℕ) (q : Sound nodes
   inner_run_lem = inner_all (λ c. at values c 0) xs (start nodes cells counters masks values) v (fresh_holds nodes cells counters masks values q) (fresh_shape nodes cells counters masks values q)
 
   -- no step answers 15
-  pub never_15 : (x : Step) → (step_of now x).answer ≢ Refused NotWhole
+  pub never_15 : (x : Step) → (step_of now x).answer ≢ Refused 15
   unfolding step_whole
   never_15 x e = let o : Answered (step_of now x).answer = rw (inner_step x) (answered (desk_of now x) x) in
       let l : (16 ≤ 15) × (15 ≤ 24) = subst Answered e o in omega arith

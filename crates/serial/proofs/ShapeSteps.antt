@@ -27,7 +27,7 @@ use Rattle.group.specs.declared.Refusal.{Refusal}
 use Rattle.group.specs.declared.Slot.{Slot}
 use Rattle.group.specs.declared.Stage.TheVariants.{Voting, Committed, Aborted}
 use Rattle.group.specs.declared.Answer.TheVariants as Answer
-use Rattle.group.specs.Answer.{turn}
+use Rattle.group.specs.Answer.{code, turn}
 use Rattle.group.specs.State.{State, voted_no, voted_yes, to_apply, finished, entered, writer, involved, committed, stage_number, final_of, in_stage, at_stage, slot_at, counters_at}
 use Rattle.vote.specs.declared.Reason.{Reason}
 use Rattle.vote.specs.Vote.{prepare_tests, reason, vote_for, vote, prepare_turn, prepare_flight}
@@ -205,7 +205,7 @@ module _ (first : ℕ → ℕ) (s : State) (H : List Handed) (a : All first s H)
   unfolding cuts desk_of put_back
   cut_shape k = counted_shape _
 
-  refused_shape : (c : Refusal) → Shape (put_back s x (refuses (desk_of s x) c).desk)
+  refused_shape : (c : ℕ) → Shape (put_back s x (refuses (desk_of s x) c).desk)
   unfolding desk_of put_back
   refused_shape c = counted_shape _
 
@@ -230,7 +230,7 @@ module _ (first : ℕ → ℕ) (s : State) (H : List Handed) (a : All first s H)
       → Shape (put_back s x (judge r (desk_of s x) (cond (leb 128 x.kind) (cuts (desk_of s x) x (named x.kind)) (does (desk_of s x) x (named x.kind)))).desk)
   judged_shape None e = let o = passed _ e in
       by_test (leb 128 x.kind) (λ d. rw d (cut_shape (named x.kind))) (λ d. rw d (kinds_shape (named x.kind) refl (fields_in s x (named x.kind) (needs (desk_of s x) x (named x.kind)) refl o) o.1.1.1))
-  judged_shape (Some c) e = refused_shape c
+  judged_shape (Some c) e = refused_shape (code c)
 
   pub step_shape : Shape (step_whole s x).state
   unfolding step_whole act desk_of

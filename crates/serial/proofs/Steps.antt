@@ -188,15 +188,15 @@ module _ (first : ℕ → ℕ) (s : State) (H : List Handed) (a : All first s H)
   -- ---- every step of a state
 
   -- a code of 16 or more is not that of a value
-  refused_same : (c : Refusal) → 16 ≤ code c → After (refuses (desk_of s x) c)
+  refused_same : (c : ℕ) → 16 ≤ c → After (refuses (desk_of s x) c)
   unfolding desk_of put_back
-  refused_same c h = rw (ne_eqb (code c) 1 (λ z. omega arith)) (subst (λ (z : State). All first (set_slot z x.slot (slot_at s x.slot)) H) (sym (same_counters s (place_of s x))) (subst (λ (z : State). All first z H) (sym (same_slot s x.slot)) a))
+  refused_same c h = rw (ne_eqb c 1 (λ z. omega arith)) (subst (λ (z : State). All first (set_slot z x.slot (slot_at s x.slot)) H) (sym (same_counters s (place_of s x))) (subst (λ (z : State). All first z H) (sym (same_slot s x.slot)) a))
 
   judged : (r : Option Refusal) → Accepted r → refusal (field_tests s.group.nodes s.group.cells x (needs (desk_of s x) x (named x.kind))) ≡ r
       → After (judge r (desk_of s x) (cond (leb 128 x.kind) (cuts (desk_of s x) x (named x.kind)) (does (desk_of s x) x (named x.kind))))
   judged None h e = let o = passed _ e in let f = fields_in s x (named x.kind) (needs (desk_of s x) x (named x.kind)) refl o in
       by_test (leb 128 x.kind) (λ b. rw b (cuts_keep (named x.kind) refl f o.1.1.1)) (λ b. rw b (kinds_keep (named x.kind) refl f o.1.1.1))
-  judged (Some c) h e = refused_same c h.0
+  judged (Some c) h e = refused_same (code c) h.0
 
   pub whole_step : All first (step_whole s x).state (handed_by s x (step_whole s x).answer ++ H)
   unfolding step_whole act desk_of
