@@ -5,10 +5,11 @@ use mathlib.Core.Path.{◌≡◌, refl}
 use mathlib.Core.Logic.{◌≢◌}
 use mathlib.Core.List.{List, [], ◌++◌}
 use mathlib.Core.Bool.{true}
-use Prim.Native.Nat.{ℕ, ◌+◌, ◌^◌, ◌≤◌, ◌<◌}
+use Prim.Native.Nat.{ℕ, ◌+◌, ◌/◌, ◌%◌, ◌^◌, ◌≤◌, ◌<◌}
 use lib.ListN.{length, get_or, take, drop}
 use Rattle.std.specs.Prelude.{Option, Some, Ok}
 use Rattle.tables.specs.Table.{at}
+use Rattle.tables.specs.Pair.{word}
 use Rattle.number.specs.Proposal.{proposal, IsProposal}
 use Rattle.number.proofs.Laws.{proposal_is, proposal_only}
 use Rattle.kinds.specs.declared.Step.{Step}
@@ -23,15 +24,16 @@ use Rattle.score.proofs.WholeLaws.{step_only}
 use Rattle.desk.specs.Desk.{Desk}
 use Rattle.desk.specs.Acts.{does, cuts}
 use Rattle.score.specs.Steps.{step_whole, step_of}
-use Rattle.little.specs.Little.{fits, number_at, stored}
+use Rattle.little.specs.Little.{digits, fits, number_at, stored}
 use Rattle.little.proofs.Laws.{Bytes, number_stored, stored_before, stored_past}
 use Rattle.runfile.specs.declared.Fault.{Fault}
-use Rattle.runfile.specs.File.{File, got, fault, bytes_of, read_file}
+use Rattle.runfile.specs.File.{File, got, fault, step_bytes, bytes_of, read_file}
 use Rattle.runfile.specs.Head.{head_of}
+use Rattle.runfile.proofs.FileItems.{StepFits}
 use Rattle.runfile.proofs.BothWays.{Sound, read_written, written_read, one_run, one_file, Outcome, outcome, not_both_ways, one_fault}
 use Rattle.runwrite.specs.Writing.{word_of, step_of as step_in, file_of}
 use Rattle.runwrite.proofs.Back.{file_back}
-use Rattle.runwrite.proofs.Words.{word_step}
+use Rattle.runwrite.proofs.Words.{word_step, number_bytes}
 use Rattle.runfile.proofs.Longer.{longer_input}
 use Rattle.text.specs.Text.{decimal, placed}
 use Rattle.text.proofs.Digits.{decimal_first, decimal_only}
@@ -115,6 +117,10 @@ one_fault_only = one_fault
 -- Every run can be handed to the writer, as its head and its steps.
 pub every_run_written : (f : File) → file_of (head_of f) f.steps ≡ f
 every_run_written = file_back
+
+-- A step is written as one number, whose eight bytes are the step's, the least first; and a number of eight bytes is one step's.
+pub step_as_number : (x : Step) → StepFits x → step_bytes x ≡ digits 4 (word_of x % word) ++ digits 4 (word_of x / word)
+step_as_number = number_bytes
 
 pub one_number_a_step : (w : ℕ) → word_of (step_in w) ≡ w
 one_number_a_step = word_step

@@ -3,14 +3,15 @@
 use mathlib.Core.Path.{◌≡◌, refl, sym, ap, ap₂, ◌∙◌}
 use mathlib.Core.List.{List, [], ◌∷◌, ◌++◌, append_assoc, append-nil}
 use Rattle.std.specs.Prelude.{None, Some, Ok, Err}
-use Prim.Native.Nat.{ℕ, suc, ◌+◌, ◌*◌, ◌≤◌, ◌<◌}
+use Prim.Native.Nat.{ℕ, suc, ◌+◌, ◌*◌, ◌/◌, ◌%◌, ◌≤◌, ◌<◌}
 use native.Mathlib.Nat.{add-zero, zero-add}
 use native.Mathlib.Numerals.{add-one}
 use native.Mathlib.Omega.{arith}
 use lib.ListN.{length, set, length-set}
-use lib.Seq.{sets, sets-eq}
+use lib.Seq.{sets, sets-eq, length-sets}
 use borrow.Author.Tests.{le-leb, lt-leb}
 use Rattle.tables.specs.Table.{at}
+use Rattle.tables.specs.Pair.{word}
 use Rattle.kinds.specs.declared.Step.{Step}
 use Rattle.little.specs.Little.{digits, stored}
 use Rattle.little.proofs.Laws.{fits_in, stored_in, digits_size}
@@ -20,13 +21,14 @@ use Rattle.runfile.specs.Parts.{steps_start}
 use Rattle.runfile.specs.Head.{firsts, cell_in}
 use Rattle.runfile.specs.declared.Fault.{Fault}
 use Rattle.runfile.specs.declared.Fault.TheVariants.{Room}
-use Rattle.runwrite.specs.Writing.{file_of, written}
+use Rattle.runwrite.specs.Writing.{word_of, file_of, written}
 use Rattle.runfile.proofs.Items.{Item, joined_append, joined_size}
 use Rattle.runfile.proofs.BothWays.{passes_when}
-use Rattle.runfile.proofs.FileItems.{counter_item, cell_item}
+use Rattle.runfile.proofs.FileItems.{StepFits, counter_item, cell_item}
 use Rattle.runfile.proofs.Parts.{file_size}
 use Rattle.runfile.proofs.Rows.{firsts_next, firsts_size}
 use Rattle.runwrite.proofs.Judging.{counters_size, cells_size, steps_are}
+use Rattle.runwrite.proofs.Words.{number_bytes}
 
 -- ---- stored one after the other
 
@@ -68,20 +70,20 @@ pub cell_stored :
 cell_stored o p m v h =
     put_number (set o p m) (p + 1) 4 v (omega arith) (omega (arith, length-set o p m)) ∙ ap (λ (k : ℕ). sets (set o p m) k (digits 4 v)) (add-one p)
 
+-- the two halves of a step's number, one after the other
 pub step_stored :
-    (o : List ℕ) (p : ℕ) (x : Step) → p + 8 ≤ length o
-    → stored (set (set (set (set o p x.kind) (p + 1) x.slot) (p + 2) x.node) (p + 3) x.cell) (p + 4) 4 x.value ≡ sets o p (step_bytes x)
-step_stored o p x h =
-    let o₁ = set o p x.kind in
-    let o₂ = set o₁ (p + 1) x.slot in
-    let o₃ = set o₂ (p + 2) x.node in
-    let o₄ = set o₃ (p + 3) x.cell in
-    let l : length o₄ ≡ length o = length-set o₃ (p + 3) x.cell ∙ length-set o₂ (p + 2) x.node ∙ length-set o₁ (p + 1) x.slot ∙ length-set o p x.kind in
-    let e₁ : p + 1 ≡ suc p = omega arith in
-    let e₂ : p + 2 ≡ suc (suc p) = omega arith in
-    let e₃ : p + 3 ≡ suc (suc (suc p)) = omega arith in
-    let e₄ : p + 4 ≡ suc (suc (suc (suc p))) = omega arith in
-    put_number o₄ (p + 4) 4 x.value (omega arith) (omega arith) ∙ rw (e₁, e₂, e₃, e₄) refl
+    (o : List ℕ) (p : ℕ) (x : Step) → StepFits x → p + 8 ≤ length o
+    → stored (stored o p 4 (word_of x % word)) (p + 4) 4 (word_of x / word) ≡ sets o p (step_bytes x)
+step_stored o p x f h =
+    let a = digits 4 (word_of x % word) in
+    let e : stored o p 4 (word_of x % word) ≡ sets o p a = put_number o p 4 (word_of x % word) (omega arith) (omega arith) in
+    rw (
+      e,
+      put_number (sets o p a) (p + 4) 4 (word_of x / word) (omega arith) (omega (arith, length-sets o p a)),
+      number_bytes x f,
+      sets_append a o p (digits 4 (word_of x / word)),
+      digits_size 4 (word_of x % word),
+    )
 
 -- ---- a count and what it counts
 

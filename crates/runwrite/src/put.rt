@@ -86,11 +86,9 @@ fn put_step(x: Step, at: usize, out: &mut [u8])
     requires { at + 8 ≤ length out.old }
     ensures { out.new ≡ sets out.old at (step_bytes x) }
 {
-    out[at] = x.kind;
-    out[at + 1] = x.slot;
-    out[at + 2] = x.node;
-    out[at + 3] = x.cell;
-    little::store(out, at + 4, 4, x.value);
+    let word = crate::pack(x);
+    little::store(out, at, 4, tables::low(word));
+    little::store(out, at + 4, 4, tables::high(word));
 }
 
 fn put_steps(steps: &[Step], start: usize, out: &mut [u8])
