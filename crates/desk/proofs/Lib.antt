@@ -1,3 +1,4 @@
 pub mod Acts
 pub mod Codes
 pub mod Fields
+pub mod Laws
