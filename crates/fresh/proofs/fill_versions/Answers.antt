@@ -10,7 +10,7 @@ use Rattle.fresh.specs.Fresh.{fresh_versions}
 use Rattle.fresh.proofs.fill_versions.Goals as goal
 
 pub loop-i-init : goal.loop-i-init
-loop-i-init c = sym (each_none _ _ _ _)
+loop-i-init c = c.requires ∙ sym (each_none _ _ _ _)
 
 pub loop-i-preserved : goal.loop-i-preserved
 unfolding at put
