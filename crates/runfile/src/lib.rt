@@ -45,6 +45,7 @@ pub struct Head {
 
 // What any bytes of any length come to: the run that they are the file of, or their first fault by place. The steps are judged where they
 // stand and are not copied.
+#[tactic(auto, using(crate::proofs::Opening::open_over))]
 pub fn open(file: &[u8]) -> Result<Head, Fault>
     ensures { result ≡ opened_of (read_file file.now) }
 {
