@@ -70,20 +70,17 @@ pub cell_stored :
 cell_stored o p m v h =
     put_number (set o p m) (p + 1) 4 v (omega arith) (omega (arith, length-set o p m)) ∙ ap (λ (k : ℕ). sets (set o p m) k (digits 4 v)) (add-one p)
 
--- the two halves of a step's number, one after the other
+-- the two halves of a step's number, one after the other, however they and their places are come by
 pub step_stored :
-    (o : List ℕ) (p : ℕ) (x : Step) → StepFits x → p + 8 ≤ length o
-    → stored (stored o p 4 (word_of x % word)) (p + 4) 4 (word_of x / word) ≡ sets o p (step_bytes x)
-step_stored o p x f h =
-    let a = digits 4 (word_of x % word) in
-    let e : stored o p 4 (word_of x % word) ≡ sets o p a = put_number o p 4 (word_of x % word) (omega arith) (omega arith) in
-    rw (
-      e,
-      put_number (sets o p a) (p + 4) 4 (word_of x / word) (omega arith) (omega (arith, length-sets o p a)),
-      number_bytes x f,
-      sets_append a o p (digits 4 (word_of x / word)),
-      digits_size 4 (word_of x % word),
-    )
+    (o o₁ o₂ : List ℕ) (p p₁ p₂ low high : ℕ) (x : Step) → StepFits x → p + 8 ≤ length o
+    → low ≡ word_of x % word → high ≡ word_of x / word → p₁ ≡ p → p₂ ≡ p + 4
+    → o₁ ≡ stored o p₁ 4 low → o₂ ≡ stored o₁ p₂ 4 high → o₂ ≡ sets o p (step_bytes x)
+step_stored o o₁ o₂ p p₁ p₂ low high x f h l u q₁ q₂ e₁ e₂ =
+    let a = digits 4 low in
+    let s₁ : o₁ ≡ sets o p a = e₁ ∙ rw q₁ (put_number o p 4 low (omega arith) (omega arith)) in
+    let s₂ : o₂ ≡ sets (sets o p a) (p + 4) (digits 4 high) =
+    e₂ ∙ rw (q₂, s₁) (put_number (sets o p a) (p + 4) 4 high (omega arith) (omega (arith, length-sets o p a))) in
+    s₂ ∙ rw (number_bytes x f, ← l, ← u, sets_append a o p (digits 4 high), digits_size 4 low)
 
 -- ---- a count and what it counts
 
